@@ -1,0 +1,18 @@
+//! The tree of an elastic program as its text spells it, and the flat forms that the compiler works on.
+#![tactic(auto)]
+
+mod declarations;
+mod flat;
+mod rule;
+mod statements;
+
+pub use declarations::{
+    Action, Comp, Decl, Entry, Field, Key, Keyset, LinTerm, Local, Next, Param, Program, Rel,
+    State, Table, UtilTerm,
+};
+pub use flat::{
+    At, Cells, Linear, Lit, Location, Out, Packet, Placement, Sizes, Steps, Terms, Unit, Units,
+    Work,
+};
+pub use rule::Rule;
+pub use statements::{Amount, Expr, Lval, RegRef, Stmt};

@@ -1,0 +1,8 @@
+//! The values that every crate of the compiler shares: lists that a tree may lead back through, and names.
+#![tactic(auto)]
+
+mod items;
+mod name;
+
+pub use items::Items;
+pub use name::Name;

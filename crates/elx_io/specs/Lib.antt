@@ -1,0 +1,6 @@
+pub mod Appends
+pub mod Counts
+pub mod Faulty
+pub mod Files
+pub mod Lines
+pub mod Places

@@ -1,0 +1,4 @@
+pub mod PlainDigits
+pub mod TableAnswers
+pub mod PieceLemmas
+pub mod LexLemmas

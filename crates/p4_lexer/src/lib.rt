@@ -1,0 +1,13 @@
+//! The tokens of an elastic P4-16 text.
+#![tactic(auto)]
+
+mod lexing;
+mod numbers;
+mod spacing;
+mod tables;
+mod token;
+mod words;
+
+pub use lexing::lex;
+pub use tables::{OPERATORS, RESERVED, SIGNS};
+pub use token::{Kind, LexError, Token};

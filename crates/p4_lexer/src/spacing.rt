@@ -1,0 +1,77 @@
+ghost use Rattle.std.specs.Prelude.{◌≡◌, ◌≢◌, ℕ, ◌+◌, ◌^◌, ◌<◌, ◌≤◌, ◌↔◌, length, slice_index, IsTrue, IfOk, IfSome};
+ghost use Rattle.p4_lexer.specs.Gaps.{is_space, IsClose, IsBlockComment, IsSpacing};
+
+use crate::token::LexError;
+
+/// The end of the space or the comment that begins at `at`, or None where neither begins there.
+pub fn spacing_end(text: &[u8], at: usize) -> Result<Option<usize>, LexError>
+    requires short { length text.now ≤ 2 ^ 24 }
+    requires within { at < length text.now }
+    ensures { IfOk result (λ found. IfSome found (λ end. IsSpacing text.now at end)) }
+{
+    if is_space(text[at]) {
+        return Ok(Some(at + 1));
+    }
+    if text[at] != b'/' || at + 1 == text.len() {
+        return Ok(None);
+    }
+    match text[at + 1] {
+        b'/' => Ok(Some(line_end(text, at + 2))),
+        b'*' => {
+            let end = block_end(text, at + 2);
+            if end.is_some() {
+                Ok(end)
+            } else {
+                Err(LexError::OpenComment { at: at as u32 })
+            }
+        }
+        _ => Ok(None),
+    }
+}
+
+/// Whether a byte separates tokens: a space, a tab, a carriage return or a line feed.
+fn is_space(byte: u8) -> bool
+    ensures { result ≡ is_space byte }
+{
+    byte == b' ' || byte == b'\t' || byte == b'\r' || byte == b'\n'
+}
+
+/// The place of the first line feed from `from` on, or the end of the text.
+fn line_end(text: &[u8], from: usize) -> usize
+    requires { from ≤ length text.now }
+    ensures after { from ≤ result }
+    ensures within { result ≤ length text.now }
+    ensures before { (k : ℕ) → from ≤ k → k < result → slice_index text.now k ≢ 10 }
+    ensures found { result < length text.now → slice_index text.now result ≡ 10 }
+{
+    for i in from..text.len() {
+        if text[i] == b'\n' {
+            return i;
+        }
+    }
+    text.len()
+}
+
+/// The place after the first `*/` from `from` on.
+fn block_end(text: &[u8], from: usize) -> Option<usize>
+    requires { from ≤ length text.now }
+    ensures after { IfSome result (λ end. from + 2 ≤ end) }
+    ensures within { IfSome result (λ end. end ≤ length text.now) }
+    ensures before { IfSome result (λ end. (k : ℕ) → from ≤ k → k + 2 < end → IsClose text.now k → ⊥) }
+    ensures found { IfSome result (λ end. (k : ℕ) → k + 2 ≡ end → IsClose text.now k) }
+{
+    for i in from..text.len() {
+        if is_close(text, i) {
+            return Some(i + 2);
+        }
+    }
+    None
+}
+
+/// Whether `*/` stands at `at`.
+fn is_close(text: &[u8], at: usize) -> bool
+    requires { at < length text.now }
+    ensures { IsTrue result ↔ IsClose text.now at }
+{
+    at + 1 < text.len() && text[at] == b'*' && text[at + 1] == b'/'
+}

@@ -1,0 +1,8 @@
+use Rattle.spelling.proofs.Taking.{may, takes_both, takes_bracketed}
+use Rattle.p4_parser.specs.Grammar.{SpellsUtility}
+use Rattle.p4_parser.proofs.parsing.maximize.Goals as goal
+
+pub returns : goal.returns
+returns c =
+    takes_both c.in_ok-fixed_name.ensures.taken
+    (takes_both (takes_bracketed _ _ c.args.depth c.in_ok-_inner._inner (λ _. SpellsUtility c.in_ok-terms.terms) c.in_ok-_inner.ensures.depth c.in_ok-_inner.ensures.taken (may c.in_ok-terms.ensures) c.in_ok-sign.ensures.taken) c.in_ok-sign-2.ensures.taken)

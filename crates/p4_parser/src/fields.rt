@@ -1,0 +1,67 @@
+//! Fields and their widths.
+
+ghost use Rattle.std.specs.Prelude.{codes, IfOk, OnOk};
+ghost use Rattle.spelling.specs.Grammar.{Each, Begins, IsSign};
+ghost use Rattle.spelling.specs.Reading.{ahead, Takes, MayTake};
+ghost use Rattle.p4_parser.specs.Grammar.{SpellsBits, SpellsSize, SpellsMetaField};
+
+use elastic_ast::Field;
+use elx_bits::{Items, Name};
+use spelling::{Reader, SyntaxError, keep};
+use std::alloc::Global;
+
+/// Reads the fields of the metadata, and stops at the closing bracket.
+pub fn meta_fields(
+    alloc: Global,
+    reader: &mut Reader<'_>,
+    depth: u32,
+) -> Result<Items<Field>, SyntaxError>
+    ensures taken { IfOk result (λ fields. MayTake (Each (SpellsMetaField depth) fields) (ahead reader.old) (ahead reader.new)) }
+    ensures ended { OnOk result (Begins (IsSign (codes "}")) (ahead reader.new)) }
+{
+    let mut fields = Items::new(alloc);
+    'fields: while !reader.is_at_sign(b"}") {
+        let field = meta_field(alloc, reader, depth)?;
+        keep(&mut fields, field)?;
+    }
+    Ok(fields)
+}
+
+/// `bit<WIDTH> NAME;` or `bit<WIDTH>[SIZE] NAME;`
+fn meta_field(alloc: Global, reader: &mut Reader<'_>, depth: u32) -> Result<Field, SyntaxError>
+    ensures { IfOk result (λ field. Takes (SpellsMetaField depth field) (ahead reader.old) (ahead reader.new)) }
+{
+    let width = bits(reader)?;
+    let size = array_size(alloc, reader, depth)?;
+    let name = reader.name(alloc)?;
+    reader.sign(b";")?;
+    Ok(Field { name, width, size })
+}
+
+/// `bit<WIDTH>`
+fn bits(reader: &mut Reader<'_>) -> Result<u8, SyntaxError>
+    ensures { IfOk result (λ width. Takes (SpellsBits width) (ahead reader.old) (ahead reader.new)) }
+{
+    reader.reserved(b"bit")?;
+    reader.sign(b"<")?;
+    let width = reader.number(255)?;
+    reader.sign(b">")?;
+    Ok(width as u8)
+}
+
+/// `[SIZE]`, where it is there.
+fn array_size(
+    alloc: Global,
+    reader: &mut Reader<'_>,
+    depth: u32,
+) -> Result<Option<Name>, SyntaxError>
+    ensures { IfOk result (λ size. MayTake (SpellsSize depth size) (ahead reader.old) (ahead reader.new)) }
+{
+    if !reader.is_at_sign(b"[") {
+        return Ok(None);
+    }
+    let _inner = reader.open(b"[", depth)?;
+    let symbol = reader.name(alloc)?;
+    reader.sign(b"]")?;
+    Ok(Some(symbol))
+}

@@ -1,0 +1,123 @@
+//! Sums of terms, comparisons of sums, and the utility.
+
+ghost use Rattle.std.specs.Prelude.{◌≡◌, IfOk, IfSome, None};
+ghost use Rattle.spelling.specs.Reading.{ahead, Takes};
+ghost use Rattle.p4_parser.specs.Grammar.{SpellsProduct, SpellsSign, SpellsSum, SpellsRelation, SpellsComparison, SpellsComparisons, SpellsUtility};
+
+use elastic_ast::{Comp, LinTerm, Rel, UtilTerm};
+use elx_bits::Items;
+use spelling::{Reader, SyntaxError, keep};
+use std::alloc::Global;
+
+/// Reads comparisons with `&&` between them.
+pub fn comparisons(alloc: Global, reader: &mut Reader<'_>) -> Result<Items<Comp>, SyntaxError>
+    ensures { IfOk result (λ comps. Takes (SpellsComparisons comps) (ahead reader.old) (ahead reader.new)) }
+{
+    let mut comps = Items::new(alloc);
+    let first = comparison(alloc, reader)?;
+    keep(&mut comps, first)?;
+    'comps: while reader.eat_sign(b"&&") {
+        let comp = comparison(alloc, reader)?;
+        keep(&mut comps, comp)?;
+    }
+    Ok(comps)
+}
+
+/// Reads the terms of a utility, each but the first with its sign.
+pub fn utility(alloc: Global, reader: &mut Reader<'_>) -> Result<Items<UtilTerm>, SyntaxError>
+    ensures { IfOk result (λ terms. Takes (SpellsUtility terms) (ahead reader.old) (ahead reader.new)) }
+{
+    let mut terms = Items::new(alloc);
+    let first = term(alloc, reader, false)?;
+    keep(&mut terms, UtilTerm::Lin(first))?;
+    'terms: while let Some(minus) = sign(reader) {
+        let term = term(alloc, reader, minus)?;
+        keep(&mut terms, UtilTerm::Lin(term))?;
+    }
+    Ok(terms)
+}
+
+/// Reads two sums with a relation between them.
+fn comparison(alloc: Global, reader: &mut Reader<'_>) -> Result<Comp, SyntaxError>
+    ensures { IfOk result (λ comp. Takes (SpellsComparison comp) (ahead reader.old) (ahead reader.new)) }
+{
+    let left = sum(alloc, reader)?;
+    let rel = relation(reader)?;
+    let right = sum(alloc, reader)?;
+    Ok(Comp { left, rel, right })
+}
+
+/// Reads the terms of a sum, each but the first with its sign.
+fn sum(alloc: Global, reader: &mut Reader<'_>) -> Result<Items<LinTerm>, SyntaxError>
+    ensures { IfOk result (λ terms. Takes (SpellsSum terms) (ahead reader.old) (ahead reader.new)) }
+{
+    let mut terms = Items::new(alloc);
+    let first = term(alloc, reader, false)?;
+    keep(&mut terms, first)?;
+    'terms: while let Some(minus) = sign(reader) {
+        let term = term(alloc, reader, minus)?;
+        keep(&mut terms, term)?;
+    }
+    Ok(terms)
+}
+
+/// Reads what follows the sign of a term: a number, a name, or a number of times a name.
+fn term(alloc: Global, reader: &mut Reader<'_>, minus: bool) -> Result<LinTerm, SyntaxError>
+    ensures minus { IfOk result (λ term. term.minus ≡ minus) }
+    ensures taken { IfOk result (λ term. Takes (SpellsProduct term.by term.symbol) (ahead reader.old) (ahead reader.new)) }
+{
+    if !reader.is_at_number() {
+        let symbol = Some(reader.name(alloc)?);
+        return Ok(LinTerm {
+            minus,
+            by: 1,
+            symbol,
+        });
+    }
+    let by = reader.number(u128::from(u64::MAX))? as u64;
+    if !reader.eat_sign(b"*") {
+        return Ok(LinTerm {
+            minus,
+            by,
+            symbol: None,
+        });
+    }
+    let symbol = Some(reader.name(alloc)?);
+    Ok(LinTerm { minus, by, symbol })
+}
+
+/// Reads the sign of a term, where one is there: whether it is a minus.
+fn sign(reader: &mut Reader<'_>) -> Option<bool>
+    ensures taken { IfSome result (λ minus. Takes (SpellsSign minus) (ahead reader.old) (ahead reader.new)) }
+    ensures left { result ≡ None → reader.new ≡ reader.old }
+{
+    if reader.eat_sign(b"-") {
+        return Some(true);
+    }
+    if reader.eat_sign(b"+") {
+        return Some(false);
+    }
+    None
+}
+
+/// Reads a relation.
+fn relation(reader: &mut Reader<'_>) -> Result<Rel, SyntaxError>
+    ensures { IfOk result (λ rel. Takes (SpellsRelation rel) (ahead reader.old) (ahead reader.new)) }
+{
+    if reader.eat_sign(b"<=") {
+        return Ok(Rel::Le);
+    }
+    if reader.eat_sign(b"<") {
+        return Ok(Rel::Lt);
+    }
+    if reader.eat_sign(b">=") {
+        return Ok(Rel::Ge);
+    }
+    if reader.eat_sign(b">") {
+        return Ok(Rel::Gt);
+    }
+    if reader.eat_sign(b"==") {
+        return Ok(Rel::Eq);
+    }
+    Err(reader.refusal())
+}

@@ -1,0 +1,14 @@
+pub mod Answer
+pub mod Bound
+pub mod Bounding
+pub mod Choice
+pub mod Codes
+pub mod Commands
+pub mod Feasible
+pub mod HeaderBits
+pub mod HeaderUse
+pub mod Listing
+pub mod Picking
+pub mod Shown
+pub mod Source
+pub mod Stopping

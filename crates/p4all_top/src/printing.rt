@@ -1,0 +1,78 @@
+//! The lines that `size` prints.
+
+ghost use Rattle.std.specs.Prelude.{◌≡◌, ◌≤◌, length, IfOk, OnOk};
+ghost use Rattle.p4all_top.specs.Answer.{with_size, with_utility, sizes_text, infeasible_text, unbounded_text, notyet_text};
+
+use elx_bits::Name;
+use elx_io::Lines;
+use std::alloc::{AllocError, Global};
+
+/// Adds the line of one symbol.
+fn put_size(lines: &mut Lines, symbol: &Name, size: u64) -> Result<(), AllocError>
+    ensures { OnOk result (lines.new ≡ with_size lines.old symbol.now size) }
+{
+    lines.word(b"size")?;
+    lines.word(symbol.as_slice())?;
+    lines.number(i128::from(size))?;
+    lines.end()
+}
+
+/// The sizes of the symbols and the utility.
+pub fn sizes_lines(
+    alloc: Global,
+    symbols: &[Name],
+    sizes: &[u64],
+    utility: i128,
+) -> Result<Lines, AllocError>
+    requires { length sizes.now ≡ length symbols.now }
+    ensures { IfOk result (λ lines. lines ≡ sizes_text symbols.now sizes.now utility) }
+{
+    let mut lines = Lines::new(alloc);
+    for i in 0..symbols.len() {
+        put_size(&mut lines, &symbols[i], sizes[i])?;
+    }
+    put_utility(&mut lines, utility)?;
+    Ok(lines)
+}
+
+/// Adds the line of the utility.
+fn put_utility(lines: &mut Lines, utility: i128) -> Result<(), AllocError>
+    ensures { OnOk result (lines.new ≡ with_utility lines.old utility) }
+{
+    lines.word(b"utility")?;
+    lines.number(utility)?;
+    lines.end()
+}
+
+/// The line that says that no sizes are feasible.
+pub fn infeasible_line(alloc: Global) -> Result<Lines, AllocError>
+    ensures { IfOk result (λ lines. lines ≡ infeasible_text) }
+{
+    let mut lines = Lines::new(alloc);
+    lines.word(b"infeasible")?;
+    lines.end()?;
+    Ok(lines)
+}
+
+/// The line that refuses a program whose symbol has no bound.
+pub fn unbounded_line(alloc: Global, symbol: &Name) -> Result<Lines, AllocError>
+    ensures { IfOk result (λ lines. lines ≡ unbounded_text symbol.now) }
+{
+    let mut lines = Lines::new(alloc);
+    lines.word(b"refused")?;
+    lines.word(b"unbounded")?;
+    lines.word(symbol.as_slice())?;
+    lines.end()?;
+    Ok(lines)
+}
+
+/// The line that refuses what isn't built yet.
+pub fn notyet_line(alloc: Global) -> Result<Lines, AllocError>
+    ensures { IfOk result (λ lines. lines ≡ notyet_text) }
+{
+    let mut lines = Lines::new(alloc);
+    lines.word(b"refused")?;
+    lines.word(b"notyet")?;
+    lines.end()?;
+    Ok(lines)
+}

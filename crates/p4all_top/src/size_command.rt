@@ -1,0 +1,127 @@
+//! The command `size`.
+
+ghost use Rattle.std.specs.Prelude.{◌≡◌, ◌≢◌, ◌↔◌, length, IfOk, IfSome, option_map, OnOk, ◌⊎◌};
+ghost use Rattle.elastic_ast.specs.Seen.{seen_decls};
+ghost use Rattle.elx_io.specs.Files.{bytes_at};
+ghost use Rattle.elx_io.specs.Counts.{Rose};
+ghost use Rattle.target_desc.specs.InRange.{IsInRange};
+ghost use Rattle.target_desc.specs.TargetText.{IsTargetText};
+ghost use Rattle.p4all_top.specs.Source.{IsProgram};
+ghost use Rattle.p4all_top.specs.Stopping.{StopCounts, stopped};
+ghost use Rattle.p4all_top.specs.Answer.{IsSizeAnswer};
+ghost use Rattle.p4all_top.specs.Commands.{IsEnd, IsSizeEnd, IsShown, StatusCounts, TellsSizes, texts_of};
+
+use crate::files::read_file;
+use crate::reading::{MOST_SOURCE, MOST_TARGET, program_of, target_of};
+use crate::sizing::{Answer, not_yet, size_answer};
+use crate::status::Status;
+use crate::stopping::Stop;
+use elx_io::{Shelf, Sink, SinkErr};
+use std::alloc::{AllocError, Global};
+use target_desc::Target;
+use width_check::Checked;
+
+/// The program of a file, or None where the file has none that can be taken.
+fn read_program<S: Shelf>(alloc: Global, shelf: &mut S, name: &str) -> Result<Option<Checked>, Stop>
+    ensures found { IfOk result (λ found. IfSome found (λ checked. IfSome (S.holds shelf.old) (λ files. IsProgram (bytes_at files name.now) (seen_decls checked)))) }
+    ensures kept { S.holds shelf.new ≡ S.holds shelf.old }
+    ensures counts { StopCounts (S.faults shelf.old) (S.faults shelf.new) result }
+{
+    let bytes = match read_file(alloc, shelf, name, MOST_SOURCE) {
+        Ok(Some(bytes)) => bytes,
+        Ok(None) => return Ok(None),
+        Err(stop) => return Err(stop),
+    };
+    match program_of(alloc, bytes.as_slice()) {
+        Ok(found) => Ok(found),
+        Err(_) => Err(Stop::Memory),
+    }
+}
+
+/// The target of a file, or None where the file describes none.
+fn read_target<S: Shelf>(alloc: Global, shelf: &mut S, name: &str) -> Result<Option<Target>, Stop>
+    ensures found { IfOk result (λ found. IfSome found (λ target. IfSome (S.holds shelf.old) (λ files. IsTargetText (bytes_at files name.now) target))) }
+    ensures in_range { IfOk result (λ found. IfSome found IsInRange) }
+    ensures kept { S.holds shelf.new ≡ S.holds shelf.old }
+    ensures counts { StopCounts (S.faults shelf.old) (S.faults shelf.new) result }
+{
+    let bytes = match read_file(alloc, shelf, name, MOST_TARGET) {
+        Ok(Some(bytes)) => bytes,
+        Ok(None) => return Ok(None),
+        Err(stop) => return Err(stop),
+    };
+    match target_of(alloc, bytes.as_slice()) {
+        Ok(found) => Ok(found),
+        Err(_) => Err(Stop::Memory),
+    }
+}
+
+/// The answer for a source and a target. The source is read and refused before the target is read.
+fn find<S: Shelf>(alloc: Global, shelf: &mut S, source: &str, target: &str) -> Result<Answer, Stop>
+    ensures answer { IfOk result (λ answer. IfSome (S.holds shelf.old) (λ files. IsSizeAnswer (bytes_at files source.now) (bytes_at files target.now) answer.status answer.lines)) }
+    ensures ended { IfOk result (λ answer. IsSizeEnd answer.status) }
+    ensures kept { S.holds shelf.new ≡ S.holds shelf.old }
+    ensures counts { StopCounts (S.faults shelf.old) (S.faults shelf.new) result }
+{
+    let checked = match read_program(alloc, shelf, source) {
+        Ok(Some(checked)) => checked,
+        Ok(None) => return in_memory(not_yet(alloc)),
+        Err(stop) => return Err(stop),
+    };
+    let target = match read_target(alloc, shelf, target) {
+        Ok(Some(target)) => target,
+        Ok(None) => return in_memory(not_yet(alloc)),
+        Err(stop) => return Err(stop),
+    };
+    in_memory(size_answer(alloc, &checked, &target))
+}
+
+/// Want of memory as what stops a run.
+fn in_memory(found: Result<Answer, AllocError>) -> Result<Answer, Stop>
+    ensures { result ≡ stopped found }
+{
+    match found {
+        Ok(answer) => Ok(answer),
+        Err(_) => Err(Stop::Memory),
+    }
+}
+
+/// Prints the lines of an answer, and gives its status.
+fn show<O: Sink>(out: &mut O, answer: &Answer) -> Status
+    requires { IsSizeEnd answer.now.status }
+    ensures shown { IsShown answer.now.lines answer.now.status result (O.written out.old) (O.written out.new) }
+    ensures counts { StatusCounts (O.faults out.old) (O.faults out.new) result }
+{
+    match out.put(answer.lines.bytes()) {
+        Ok(()) => answer.status,
+        Err(SinkErr::Failed) => Status::Fault,
+        Err(SinkErr::Memory) => Status::Memory,
+    }
+}
+
+/// Finds the sizes of a program that are best on a target, and prints them with their utility.
+///
+/// The words after the command are the names of two files: the program's source and the target's description.
+pub fn do_size<S: Shelf, O: Sink>(
+    alloc: Global,
+    words: &[&str],
+    shelf: &mut S,
+    out: &mut O,
+) -> Status
+    ensures words { (result ≡ Status.Words) ↔ (length words.now ≢ 2) }
+    ensures quiet { result ≡ Status.Words → O.written out.new ≡ O.written out.old }
+    ensures tells { TellsSizes (texts_of words.now) (S.holds shelf.old) result (O.written out.old) (O.written out.new) }
+    ensures kept { S.holds shelf.new ≡ S.holds shelf.old }
+    ensures fault { result ≡ Status.Fault → Rose (S.faults shelf.old) (S.faults shelf.new) ⊎ Rose (O.faults out.old) (O.faults out.new) }
+    ensures shelf_quiet { IsEnd result → S.faults shelf.new ≡ S.faults shelf.old }
+    ensures sink_quiet { IsEnd result → O.faults out.new ≡ O.faults out.old }
+{
+    if words.len() != 2 {
+        return Status::Words;
+    }
+    match find(alloc, shelf, words[0], words[1]) {
+        Ok(answer) => show(out, &answer),
+        Err(Stop::Fault) => Status::Fault,
+        Err(Stop::Memory) => Status::Memory,
+    }
+}

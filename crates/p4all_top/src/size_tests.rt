@@ -1,0 +1,186 @@
+//! What `size` prints, over a shelf and a sink in memory, as worked out by hand.
+
+use crate::{Status, p4all};
+use elx_bits::Items;
+use elx_io::{MemShelf, MemSink};
+use std::alloc::{AllocError, Global};
+use std::test::Fail;
+
+const ROWS_AND_COLS: &str =
+    "symbolic int rows; symbolic int cols; assume(rows >= 1 && rows <= 3); assume(cols <= 100); \
+    struct meta_t { bit<16>[rows] idx; } maximize(10*rows + cols);";
+
+/// A target with one stage and these header bits.
+fn one_stage(alloc: Global, header_bits: u32) -> Result<String, AllocError> {
+    format!(in alloc;
+        "stages = 1\nmemory_bits = 1024\nstateful = 2\nstateless = 8\ntable_bits = 1024\n\
+        ternary_bits = 1024\nheader_bits = {header_bits}\nops = 8\n"
+    )
+}
+
+/// Runs `size` on a source and a target's description, where the calls of the shelf with these numbers fail.
+fn run(
+    alloc: Global,
+    source: &[u8],
+    target: &[u8],
+    fails: &[u64],
+) -> Result<(Status, MemSink), AllocError> {
+    let mut shelf = MemShelf::new(alloc, Items::from_vec(fails.to_vec(alloc)?));
+    shelf.put_file("src", source)?;
+    shelf.put_file("target", target)?;
+    let mut out = MemSink::new(alloc, Items::new(alloc));
+    let status = p4all(
+        alloc,
+        ["size", "src", "target"].as_slice(),
+        &mut shelf,
+        &mut out,
+    );
+    Ok((status, out))
+}
+
+#[test]
+fn size_prints_the_best_sizes_or_why_there_are_none(rt: HostRuntime) -> Result<(), Fail> {
+    let rows = [
+        (
+            ROWS_AND_COLS,
+            64,
+            Status::Done,
+            "size rows 3\nsize cols 100\nutility 130\n",
+        ),
+        (
+            ROWS_AND_COLS,
+            32,
+            Status::Done,
+            "size rows 2\nsize cols 100\nutility 120\n",
+        ),
+        (ROWS_AND_COLS, 0, Status::Infeasible, "infeasible\n"),
+        ("maximize(7);", 64, Status::Done, "utility 7\n"),
+        ("", 64, Status::Done, "utility 0\n"),
+        (
+            "symbolic int x; assume(x >= 5 && x <= 4); maximize(x);",
+            64,
+            Status::Infeasible,
+            "infeasible\n",
+        ),
+        (
+            "symbolic int x; maximize(x);",
+            64,
+            Status::Refused,
+            "refused unbounded x\n",
+        ),
+        (
+            "/* one */ symbolic int s; // two\nassume(s == 0x1_0); maximize(0 - s);",
+            64,
+            Status::Done,
+            "size s 16\nutility -16\n",
+        ),
+    ];
+    for (source, header_bits, status, printed) in rows {
+        let target = one_stage(rt.alloc(), header_bits)?;
+        let (ended, out) = run(rt.alloc(), source.as_bytes(), target.as_bytes(), &[])?;
+        assert_eq!(rt; ended, status, "{source}");
+        assert_eq!(rt; out.bytes(), printed.as_bytes(), "{source}");
+    }
+    Ok(())
+}
+
+#[test]
+fn what_is_not_built_yet_is_refused(rt: HostRuntime) -> Result<(), Fail> {
+    let target = one_stage(rt.alloc(), 64)?;
+    let rows = [
+        (
+            "symbolic int s; assume(s <= 1000000); maximize(0 - s);",
+            target.as_str(),
+        ),
+        ("symbolic int s; symbolic int s;", target.as_str()),
+        ("symbolic int a__1;", target.as_str()),
+        ("a $", target.as_str()),
+        ("maximize(x);", target.as_str()),
+        ("header h_t { bit<8> v; }", target.as_str()),
+        ("maximize(7);", "stages = 1\n"),
+    ];
+    for (source, target) in rows {
+        let (ended, out) = run(rt.alloc(), source.as_bytes(), target.as_bytes(), &[])?;
+        assert_eq!(rt; ended, Status::Refused, "{source}");
+        assert_eq!(rt; out.bytes(), b"refused notyet\n".as_slice(), "{source}");
+    }
+    Ok(())
+}
+
+#[test]
+fn files_may_have_their_limits_and_no_byte_more(rt: HostRuntime) -> Result<(), Fail> {
+    let target = one_stage(rt.alloc(), 64)?;
+    for (spaces, status) in [(16_777_216, Status::Done), (16_777_217, Status::Refused)] {
+        let source = vec![in rt.alloc(); b' '; spaces]?;
+        let (ended, _) = run(rt.alloc(), source.as_slice(), target.as_bytes(), &[])?;
+        assert_eq!(rt; ended, status, "{spaces}");
+    }
+    let mut text = vec![in rt.alloc(); b'\n'; 65_536 - target.len().min(65_536)]?;
+    text.extend_from_slice(target.as_bytes())?;
+    let (ended, _) = run(rt.alloc(), b"", text.as_slice(), &[])?;
+    assert_eq!(rt; ended, Status::Done);
+    text.push(b'\n')?;
+    let (ended, _) = run(rt.alloc(), b"", text.as_slice(), &[])?;
+    assert_eq!(rt; ended, Status::Refused);
+    Ok(())
+}
+
+#[test]
+fn a_fault_ends_the_run_and_prints_nothing(rt: HostRuntime) -> Result<(), Fail> {
+    let target = one_stage(rt.alloc(), 64)?;
+    for call in [1, 2] {
+        let (ended, out) = run(
+            rt.alloc(),
+            ROWS_AND_COLS.as_bytes(),
+            target.as_bytes(),
+            &[call],
+        )?;
+        assert_eq!(rt; ended, Status::Fault, "{call}");
+        assert_eq!(rt; out.bytes(), b"".as_slice(), "{call}");
+    }
+    let (ended, _) = run(rt.alloc(), b"maximize(7);", target.as_bytes(), &[3])?;
+    assert_eq!(rt; ended, Status::Done, "a run reads twice");
+    Ok(())
+}
+
+#[test]
+fn a_bad_source_is_refused_before_the_target_is_read(rt: HostRuntime) -> Result<(), Fail> {
+    let target = one_stage(rt.alloc(), 64)?;
+    let (ended, out) = run(rt.alloc(), b"a $", target.as_bytes(), &[2])?;
+    assert_eq!(rt; ended, Status::Refused);
+    assert_eq!(rt; out.bytes(), b"refused notyet\n".as_slice());
+    Ok(())
+}
+
+#[test]
+fn a_sink_that_fails_ends_the_run(rt: HostRuntime) -> Result<(), Fail> {
+    let mut shelf = MemShelf::new(rt.alloc(), Items::new(rt.alloc()));
+    shelf.put_file("src", b"maximize(7);")?;
+    shelf.put_file("target", one_stage(rt.alloc(), 64)?.as_bytes())?;
+    let mut out = MemSink::new(rt.alloc(), Items::from_vec([1].to_vec(rt.alloc())?));
+    let words = ["size", "src", "target"];
+    let ended = p4all(rt.alloc(), words.as_slice(), &mut shelf, &mut out);
+    assert_eq!(rt; ended, Status::Fault);
+    let again = p4all(rt.alloc(), words.as_slice(), &mut shelf, &mut out);
+    assert_eq!(rt; again, Status::Done);
+    Ok(())
+}
+
+#[test]
+fn other_words_are_no_command(rt: HostRuntime) -> Result<(), Fail> {
+    let mut shelf = MemShelf::new(rt.alloc(), Items::new(rt.alloc()));
+    let mut out = MemSink::new(rt.alloc(), Items::new(rt.alloc()));
+    let rows: [&[&str]; 5] = [
+        &[],
+        &["size"],
+        &["size", "a"],
+        &["size", "a", "b", "c"],
+        &["sizes", "a", "b"],
+    ];
+    for words in rows {
+        let ended = p4all(rt.alloc(), words, &mut shelf, &mut out);
+        assert_eq!(rt; ended, Status::Words, "{words:?}");
+    }
+    assert_eq!(rt; out.bytes(), b"".as_slice());
+    Ok(())
+}

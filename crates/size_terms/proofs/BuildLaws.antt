@@ -1,0 +1,235 @@
+-- What a checked program keeps of its terms, and how its rows and its utility are built step by step.
+use Rattle.std.proofs.Common.{◌≡◌, ℕ, zero, suc, ◌+◌, ◌<◌, ◌≤◌, ◌&&◌, Bool, true, false, List, [], ◌∷◌, ◌++◌, flat_map, length, take, drop, get_or, Option, Some, None, refl, sym, ap, subst, ◌∙◌, true≢false, arith, add-one, append_assoc, ℤ, pos, ◌+ℤ◌, neg_ℤ}
+use Rattle.std.specs.Prelude.{◌↔◌, nat_le, All, option_map, unwrap_or, if◌then◌else◌}
+use Rattle.std.specs.List.{list_all}
+use Rattle.std.proofs.lemmas.Int.{ints}
+use Rattle.std.proofs.lemmas.Bool.Decides.{nat_tests}
+use Rattle.std.proofs.lemmas.List.{take_all}
+use Rattle.std.proofs.lemmas.List.Elements.{All-nil, All-cons, All-head, All-append}
+use Rattle.std.proofs.lemmas.List.Folds.{list_all-append}
+use Rattle.std.proofs.lemmas.Grind.{flat_map-append}
+use Rattle.elastic_ast.specs.declared.declarations.Comp.{Comp}
+use Rattle.elastic_ast.specs.declared.declarations.Decl.{Decl}
+use Rattle.elastic_ast.specs.declared.declarations.LinTerm.{LinTerm}
+use Rattle.elastic_ast.specs.declared.declarations.Rel.{Rel}
+use Rattle.elastic_ast.specs.declared.declarations.Rel.TheVariants as rel
+use Rattle.elastic_ast.specs.declared.declarations.UtilTerm.{UtilTerm}
+use Rattle.elastic_ast.specs.declared.declarations.UtilTerm.TheVariants as util
+use Rattle.elastic_ast.specs.declared.flat.Linear.{Linear}
+use Rattle.elastic_ast.specs.declared.rule.Rule.{Rule}
+use Rattle.elastic_ast.specs.Tree.{Name, PlainDecl}
+use Rattle.elastic_ast.specs.Seen.{seen_decl, seen_decls}
+use Rattle.elastic_ast.specs.Scope.{or_else, found}
+use Rattle.elastic_ast.specs.Demand.{first_broken}
+use Rattle.elastic_ast.specs.Asked.{asks_symbol, asks_term, asks_comp, asks_util, asks_decl, is_first}
+use Rattle.elastic_ast.specs.Typed.{broken_rule, first_of}
+use Rattle.elastic_ast.specs.Sums.{Compares, Holds, sum_value, comps_of, comparisons, util_value, utils_value, utility_of, utility_terms, symbol_name, symbols_of}
+use Rattle.elastic_ast.proofs.First.{first-append}
+use Rattle.elastic_ast.proofs.TypedLaws.{none_both}
+use Rattle.width_check.specs.Begun.{is_begun, is_linear}
+use Rattle.width_check.specs.Sound.{IsSound}
+use Rattle.width_check.proofs.CheckLaws.{other_broken, broken_parts}
+use Rattle.width_check.proofs.ScopeLaws.{step_take}
+use Rattle.width_check.proofs.Steps.{items_drop}
+use Rattle.size_terms.specs.declared.sums.Sum.{Sum}
+use Rattle.size_terms.specs.Rows.{RowHolds, RowsHold}
+use Rattle.size_terms.specs.Growth.{sum_worth, is_near}
+use Rattle.size_terms.specs.Building.{is_short, is_near_util, IsDifference, Says, AddsComps}
+use Rattle.size_terms.proofs.RowLaws.{All-front, All-back}
+
+-- tests
+both : (a b : Bool) → a ≡ true → b ≡ true → (a && b) ≡ true
+both true b p q = q
+both false b p q = absurd (true≢false (sym p))
+
+left : (a b : Bool) → (a && b) ≡ true → a ≡ true
+left true b p = refl
+left false b p = p
+
+right : (a b : Bool) → (a && b) ≡ true → b ≡ true
+right true b p = p
+right false b p = absurd (true≢false (sym p))
+
+if_none : {A : Type 0} (b : Bool) (x : A) (o : Option A) → (if b then o else Some x) ≡ None → (b ≡ true) × (o ≡ None)
+if_none true x o h = (refl, h)
+if_none false x o h = cc
+
+unmapped : (o : Option Rule) (k : ℕ) → option_map (λ x. let p : Rule × ℕ = (x, k) in p) o ≡ None → o ≡ None
+unmapped None k h = refl
+unmapped (Some x) k h = cc
+
+-- what a declaration asks of itself is met
+own_met : (before : List PlainDecl) (d : PlainDecl) → broken_rule true before d ≡ None → first_broken true (asks_decl before d) ≡ None
+own_met before d h = (if_none (is_first before d) _ (first_broken true (asks_decl before d)) (none_both _ (other_broken true (is_first before d) (first_broken true (asks_decl before d))) (sym (broken_parts true before d (is_first before d) refl) ∙ h)).1).1
+
+terms_near : (before : List PlainDecl) (ts : List LinTerm) → first_broken true (flat_map (asks_term before) ts) ≡ None → list_all is_near ts ≡ true
+terms_near before [] h = refl
+terms_near before (t ∷ ts) h =
+    let p = if_none (nat_le t.by 1000000000) _ (first_broken true (asks_symbol before t.symbol ++ flat_map (asks_term before) ts)) h in
+    both (is_near t) (list_all is_near ts) p.0 (terms_near before ts (none_both (first_broken true (asks_symbol before t.symbol)) _ (sym (first-append true (asks_symbol before t.symbol) (flat_map (asks_term before) ts)) ∙ p.1)).1)
+
+comp_short : (before : List PlainDecl) (comp : Comp) → first_broken true (asks_comp before comp) ≡ None → is_short comp ≡ true
+comp_short before comp h =
+    let p = if_none (nat_le (length comp.left + length comp.right) 64) _ (first_broken true (flat_map (asks_term before) comp.left ++ flat_map (asks_term before) comp.right)) h in
+    let q = none_both (first_broken true (flat_map (asks_term before) comp.left)) (first_broken true (flat_map (asks_term before) comp.right)) (sym (first-append true (flat_map (asks_term before) comp.left) (flat_map (asks_term before) comp.right)) ∙ p.1) in
+    both (nat_le (length comp.left + length comp.right) 64) (list_all is_near comp.left && list_all is_near comp.right) p.0
+    (both (list_all is_near comp.left) (list_all is_near comp.right) (terms_near before comp.left q.0) (terms_near before comp.right q.1))
+
+comps_short : (before : List PlainDecl) (comps : List Comp) → first_broken true (flat_map (asks_comp before) comps) ≡ None → list_all is_short comps ≡ true
+comps_short before [] h = refl
+comps_short before (c ∷ cs) h =
+    let p = none_both (first_broken true (asks_comp before c)) (first_broken true (flat_map (asks_comp before) cs)) (sym (first-append true (asks_comp before c) (flat_map (asks_comp before) cs)) ∙ h) in
+    both (is_short c) (list_all is_short cs) (comp_short before c p.0) (comps_short before cs p.1)
+
+decl_short : (before : List PlainDecl) (d : PlainDecl) → first_broken true (asks_decl before d) ≡ None → list_all is_short (comps_of d) ≡ true
+decl_short before (PlainDecl.Assume comps) h = comps_short before comps h
+decl_short before _ h = refl
+
+all_short : (k : ℕ) (before ds : List PlainDecl) → first_of (broken_rule true) k before ds ≡ None → list_all is_short (comparisons ds) ≡ true
+all_short k before [] h = refl
+all_short k before (d ∷ ds) h =
+    let p = none_both _ (first_of (broken_rule true) (k + 1) (before ++ d ∷ []) ds) h in
+    list_all-append is_short (comps_of d) (comparisons ds)
+    ∙ both (list_all is_short (comps_of d)) (list_all is_short (comparisons ds)) (decl_short before d (own_met before d (unmapped (broken_rule true before d) k p.0))) (all_short (k + 1) (before ++ d ∷ []) ds p.1)
+
+pub sound_short : (ds : List PlainDecl) → IsSound ds → list_all is_short (comparisons ds) ≡ true
+sound_short ds s = all_short 0 [] ds s.rules
+
+-- the terms of the utility are few and small
+utils_near : (before : List PlainDecl) (ts : List UtilTerm) → list_all is_linear ts ≡ true → first_broken true (flat_map (asks_util before) ts) ≡ None → list_all is_near_util ts ≡ true
+utils_near before [] b h = refl
+utils_near before (util.Lin t ∷ ts) b h =
+    let p = if_none (nat_le t.by 1000000000) _ (first_broken true (asks_symbol before t.symbol ++ flat_map (asks_util before) ts)) h in
+    both (is_near t) (list_all is_near_util ts) p.0
+    (utils_near before ts b (none_both (first_broken true (asks_symbol before t.symbol)) _ (sym (first-append true (asks_symbol before t.symbol) (flat_map (asks_util before) ts)) ∙ p.1)).1)
+utils_near before (util.Steps minus symbol pairs ∷ ts) b h = absurd (true≢false (sym b))
+
+abbrev FewUtils : List PlainDecl → Type 0
+FewUtils ds = (length (utility_terms ds) ≤ 64) × (list_all is_near_util (utility_terms ds) ≡ true)
+
+few : (ts : List UtilTerm) → nat_le (length ts) 64 ≡ true → length ts ≤ 64
+few ts h = grind (arith, nat_tests)
+
+utils_here : (before : List PlainDecl) (d : PlainDecl) (ds : List PlainDecl) → is_begun d ≡ true → first_broken true (asks_decl before d) ≡ None → FewUtils ds → FewUtils (d ∷ ds)
+utils_here before (PlainDecl.Maximize ts) ds b h rest =
+    let p = if_none (nat_le (length ts) 64) _ (first_broken true (flat_map (asks_util before) ts)) h in
+    (few ts p.0, utils_near before ts b p.1)
+utils_here before _ ds b h rest = rest
+
+utils_few : (k : ℕ) (before ds : List PlainDecl) → first_of (broken_rule true) k before ds ≡ None → list_all is_begun ds ≡ true → FewUtils ds
+utils_few k before [] h b = (omega arith, refl)
+utils_few k before (d ∷ ds) h b =
+    let p = none_both _ (first_of (broken_rule true) (k + 1) (before ++ d ∷ []) ds) h in
+    utils_here before d ds (left (is_begun d) (list_all is_begun ds) b) (own_met before d (unmapped (broken_rule true before d) k p.0)) (utils_few (k + 1) (before ++ d ∷ []) ds p.1 (right (is_begun d) (list_all is_begun ds) b))
+
+pub sound_few : (ds : List PlainDecl) → IsSound ds → length (utility_terms ds) ≤ 64
+sound_few ds s = (utils_few 0 [] ds s.rules s.begun).0
+
+pub sound_near : (ds : List PlainDecl) → IsSound ds → list_all is_near_util (utility_terms ds) ≡ true
+sound_near ds s = (utils_few 0 [] ds s.rules s.begun).1
+
+-- rows step by step
+pub adds_nothing : (symbols : List Name) (rows : List Linear) → AddsComps symbols rows rows []
+adds_nothing symbols rows = record {
+  holds = λ sizes. (λ h. (h, All-nil (Holds symbols sizes)), λ h. h.0);
+  short = λ h. h;
+}
+
+pub adds_both : (symbols : List Name) (a b c : List Linear) (xs ys zs : List Comp) → zs ≡ xs ++ ys → AddsComps symbols a b xs → AddsComps symbols b c ys → AddsComps symbols a c zs
+adds_both symbols a b c xs ys zs e p q = record {
+  holds = λ sizes. (
+    λ h.
+        let u : RowsHold b sizes × All (Holds symbols sizes) ys = (q.holds sizes).0 h in
+        let v : RowsHold a sizes × All (Holds symbols sizes) xs = (p.holds sizes).0 u.0 in
+        (v.0, subst (λ (l : List Comp). All (Holds symbols sizes) l) (sym e) (All-append (Holds symbols sizes) xs ys v.1 u.1)),
+    λ h.
+        let all : All (Holds symbols sizes) (xs ++ ys) = subst (λ (l : List Comp). All (Holds symbols sizes) l) e h.1 in
+        (q.holds sizes).1 ((p.holds sizes).1 (h.0, All-front (Holds symbols sizes) xs ys all), All-back (Holds symbols sizes) xs ys all),
+  );
+  short = λ h. q.short (p.short h);
+}
+
+compares_le : (r : Rel) (a b w : ℤ) → w ≡ a +ℤ neg_ℤ b → Compares r w (pos 0) → Compares r a b
+compares_le rel.Le a b w e h = omega (arith, ints, e, h)
+compares_le rel.Lt a b w e h = omega (arith, ints, e, h)
+compares_le rel.Ge a b w e h = omega (arith, ints, e, h)
+compares_le rel.Gt a b w e h = omega (arith, ints, e, h)
+compares_le rel.Eq a b w e h = omega (arith, ints, e, h)
+
+compares_ge : (r : Rel) (a b w : ℤ) → w ≡ a +ℤ neg_ℤ b → Compares r a b → Compares r w (pos 0)
+compares_ge rel.Le a b w e h = omega (arith, ints, e, h)
+compares_ge rel.Lt a b w e h = omega (arith, ints, e, h)
+compares_ge rel.Ge a b w e h = omega (arith, ints, e, h)
+compares_ge rel.Gt a b w e h = omega (arith, ints, e, h)
+compares_ge rel.Eq a b w e h = omega (arith, ints, e, h)
+
+pub adds_comp : (symbols : List Name) (comp : Comp) (sum : Sum) (old new : List Linear) → IsDifference symbols comp sum → Says comp.rel sum old new → AddsComps symbols old new (comp ∷ [])
+adds_comp symbols comp sum old new d s = record {
+  holds = λ sizes. (
+    λ h.
+        let u : RowsHold old sizes × Compares comp.rel (sum_worth sum sizes) (pos 0) = (s.holds sizes).0 h in
+        (u.0, All-cons (Holds symbols sizes) comp [] (compares_le comp.rel (sum_value symbols sizes comp.left) (sum_value symbols sizes comp.right) (sum_worth sum sizes) (d.worth sizes) u.1) (All-nil (Holds symbols sizes))),
+    λ h. (s.holds sizes).1 (h.0, compares_ge comp.rel (sum_value symbols sizes comp.left) (sum_value symbols sizes comp.right) (sum_worth sum sizes) (d.worth sizes) (All-head (Holds symbols sizes) comp [] h.1)),
+  );
+  short = λ h. s.short (length symbols) (sym d.dense) h;
+}
+
+pub take_step : {X : Type 0} (xs : List X) (i : ℕ) (x : X) → i < length xs → x ≡ get_or xs i x → take (i + 1) xs ≡ take i xs ++ x ∷ []
+take_step xs i x h e = ap (λ k. take k xs) (add-one i) ∙ by xs i x h e
+  where
+    by : {X : Type 0} (xs : List X) (i : ℕ) (x : X) → i < length xs → x ≡ get_or xs i x → take (suc i) xs ≡ take i xs ++ x ∷ []
+    by [] i x h e = absurd (omega arith)
+    by (y ∷ ys) zero x h e = ap (λ z. z ∷ []) (sym e)
+    by (y ∷ ys) (suc i) x h e = ap (λ z. y ∷ z) (by ys i x (omega arith) e)
+
+pub all_taken : {X : Type 0} (xs : List X) (i : ℕ) → length xs ≤ i → take i xs ≡ xs
+all_taken xs i h = take_all i xs h
+
+-- the rest of a list of tests
+pub test_here : {X : Type 0} (p : X → Bool) (xs : List X) (i : ℕ) (x : X) → i < length xs → x ≡ get_or xs i x → list_all p (drop i xs) ≡ true → p x ≡ true
+test_here p xs i x h e inv = left (p x) (list_all p (drop (i + 1) xs)) (ap (list_all p) (sym (items_drop xs i x h e)) ∙ inv)
+
+pub test_rest : {X : Type 0} (p : X → Bool) (xs : List X) (i : ℕ) (x : X) → i < length xs → x ≡ get_or xs i x → list_all p (drop i xs) ≡ true → list_all p (drop (i + 1) xs) ≡ true
+test_rest p xs i x h e inv = right (p x) (list_all p (drop (i + 1) xs)) (ap (list_all p) (sym (items_drop xs i x h e)) ∙ inv)
+
+-- the comparisons of the declarations
+pub comps_taken : (ds : List Decl) (i : ℕ) (d : Decl) → i < length ds → d ≡ get_or ds i d → comparisons (seen_decls (take (i + 1) ds)) ≡ comparisons (seen_decls (take i ds)) ++ comps_of (seen_decl d)
+comps_taken ds i d h e = ap comparisons (step_take ds i d h e) ∙ flat_map-append comps_of (seen_decls (take i ds)) (seen_decl d ∷ []) ∙ ap (λ z. comparisons (seen_decls (take i ds)) ++ z) (append_nil (comps_of (seen_decl d)))
+  where
+    append_nil : {A : Type 0} (xs : List A) → xs ++ [] ≡ xs
+    append_nil [] = refl
+    append_nil (x ∷ xs) = ap (λ z. x ∷ z) (append_nil xs)
+
+comps_dropped : (ds : List Decl) (i : ℕ) (d : Decl) → i < length ds → d ≡ get_or ds i d → list_all is_short (comparisons (seen_decls (drop i ds))) ≡ (list_all is_short (comps_of (seen_decl d)) && list_all is_short (comparisons (seen_decls (drop (i + 1) ds))))
+comps_dropped ds i d h e = ap (λ z. list_all is_short (comparisons (seen_decls z))) (items_drop ds i d h e) ∙ list_all-append is_short (comps_of (seen_decl d)) (comparisons (seen_decls (drop (i + 1) ds)))
+
+pub short_here : (ds : List Decl) (i : ℕ) (d : Decl) → i < length ds → d ≡ get_or ds i d → list_all is_short (comparisons (seen_decls (drop i ds))) ≡ true → list_all is_short (comps_of (seen_decl d)) ≡ true
+short_here ds i d h e inv = left (list_all is_short (comps_of (seen_decl d))) (list_all is_short (comparisons (seen_decls (drop (i + 1) ds)))) (sym (comps_dropped ds i d h e) ∙ inv)
+
+pub short_rest : (ds : List Decl) (i : ℕ) (d : Decl) → i < length ds → d ≡ get_or ds i d → list_all is_short (comparisons (seen_decls (drop i ds))) ≡ true → list_all is_short (comparisons (seen_decls (drop (i + 1) ds))) ≡ true
+short_rest ds i d h e inv = right (list_all is_short (comps_of (seen_decl d))) (list_all is_short (comparisons (seen_decls (drop (i + 1) ds)))) (sym (comps_dropped ds i d h e) ∙ inv)
+
+-- the symbols of the declarations
+pub symbols_step : (ds : List Decl) (i : ℕ) (d : Decl) (names new whole : List Name) → i < length ds → d ≡ get_or ds i d → new ≡ names ++ symbol_name (seen_decl d) → names ++ symbols_of (seen_decls (drop i ds)) ≡ whole → new ++ symbols_of (seen_decls (drop (i + 1) ds)) ≡ whole
+symbols_step ds i d names new whole h e a inv =
+    ap (λ z. z ++ symbols_of (seen_decls (drop (i + 1) ds))) a ∙ append_assoc names (symbol_name (seen_decl d)) (symbols_of (seen_decls (drop (i + 1) ds))) ∙ ap (λ z. names ++ symbols_of (seen_decls z)) (sym (items_drop ds i d h e)) ∙ inv
+
+-- the utility of the declarations
+pub utility_found : (ds : List Decl) (i : ℕ) (d : Decl) (ts : List UtilTerm) (whole : Option (List UtilTerm)) → i < length ds → d ≡ get_or ds i d → utility_of (seen_decl d) ≡ Some ts → found utility_of (seen_decls (drop i ds)) ≡ whole → ts ≡ unwrap_or whole []
+utility_found ds i d ts whole h e u inv =
+    ap (λ o. unwrap_or (or_else o (found utility_of (seen_decls (drop (i + 1) ds)))) []) (sym u) ∙ ap (λ z. unwrap_or (found utility_of (seen_decls z)) []) (sym (items_drop ds i d h e)) ∙ ap (λ o. unwrap_or o []) inv
+
+-- the utility term by term
+pub utils_step : (symbols : List Name) (sum new : Sum) (ts : List UtilTerm) (i : ℕ) (t : UtilTerm) (sizes : List ℕ) (whole : ℤ) → i < length ts → t ≡ get_or ts i t
+    → sum_worth new sizes ≡ sum_worth sum sizes +ℤ util_value symbols sizes t → sum_worth sum sizes +ℤ utils_value symbols sizes (drop i ts) ≡ whole → sum_worth new sizes +ℤ utils_value symbols sizes (drop (i + 1) ts) ≡ whole
+utils_step symbols sum new ts i t sizes whole h e grown inv =
+    let parts : utils_value symbols sizes (drop i ts) ≡ util_value symbols sizes t +ℤ utils_value symbols sizes (drop (i + 1) ts) = ap (utils_value symbols sizes) (items_drop ts i t h e) in
+    omega (arith, ints, parts, grown, inv)
+
+-- the rows of a whole program
+pub assumes_are : (given taken : List Decl) (names : List Name) (rows : List Linear) → given ≡ taken → names ≡ symbols_of (seen_decls given) → AddsComps names [] rows (comparisons (seen_decls given))
+    → (sizes : List ℕ) → RowsHold rows sizes ↔ All (Holds (symbols_of (seen_decls taken)) sizes) (comparisons (seen_decls taken))
+assumes_are given taken names rows e n adds sizes =
+    let a : AddsComps (symbols_of (seen_decls given)) [] rows (comparisons (seen_decls given)) = subst (λ (z : List Name). AddsComps z [] rows (comparisons (seen_decls given))) n adds in
+    let b : AddsComps (symbols_of (seen_decls taken)) [] rows (comparisons (seen_decls taken)) = subst (λ (z : List Decl). AddsComps (symbols_of (seen_decls z)) [] rows (comparisons (seen_decls z))) e a in
+    (λ h. ((b.holds sizes).0 h).1, λ h. (b.holds sizes).1 (All-nil (RowHolds sizes), h))

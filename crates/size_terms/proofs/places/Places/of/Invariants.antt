@@ -1,0 +1,9 @@
+use Rattle.std.proofs.Common.{◌≡◌, drop}
+use Rattle.std.specs.List.{position_from}
+use Rattle.elastic_ast.specs.Tree.{Name}
+use Rattle.elastic_ast.specs.Scope.{same, or_else}
+use Rattle.size_terms.specs.Places.{entered, place_of}
+use Rattle.size_terms.proofs.places.Places.of.Given as goal
+
+abbrev pub invariant-loop-place : goal.invariant-loop-place
+invariant-loop-place l = (name : Name) → or_else (entered l.table.entries name) (position_from (same name) l.place (drop l.place l.symbols)) ≡ place_of l.symbols name

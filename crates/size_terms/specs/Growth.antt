@@ -1,0 +1,34 @@
+-- How a sum of sizes grows term by term; this project's own.
+use Rattle.std.specs.Prelude.{◌≡◌, ℕ, ◌+◌, ◌≤◌, Bool, List, length, ℤ, pos, ◌+ℤ◌, neg_ℤ, unsigned_abs, nat_le}
+use Rattle.elastic_ast.specs.declared.declarations.LinTerm.{LinTerm}
+use Rattle.size_terms.specs.declared.sums.Sum.{Sum}
+use Rattle.size_terms.specs.Rows.{dot, weight}
+
+-- what a sum is worth at these sizes
+abbrev pub sum_worth : Sum → List ℕ → ℤ
+sum_worth sum sizes = dot sum.by.items sizes +ℤ sum.constant
+
+-- the absolute values of its coefficients and its constant, added up
+abbrev pub bulk : Sum → ℕ
+bulk sum = weight sum.by.items + unsigned_abs sum.constant
+
+-- a sum has a value more than before, at all sizes, for the same symbols, and isn't much larger
+pub record Grows (old new : Sum) (value : List ℕ → ℤ) (most : ℕ) : Type 0 where
+  pub worth : (sizes : List ℕ) → sum_worth new sizes ≡ sum_worth old sizes +ℤ value sizes
+  pub dense : length new.by.items ≡ length old.by.items
+  pub bulky : bulk new ≤ bulk old + most
+
+abbrev pub is_near : LinTerm → Bool
+is_near term = nat_le term.by 1000000000
+
+-- the sum of nothing
+pub record IsZero (sum : Sum) (symbols : ℕ) : Type 0 where
+  pub worth : (sizes : List ℕ) → sum_worth sum sizes ≡ pos 0
+  pub dense : length sum.by.items ≡ symbols
+  pub bulky : bulk sum ≡ 0
+
+-- one sum is the other with its sign turned
+pub record Negates (sum other : Sum) : Type 0 where
+  pub worth : (sizes : List ℕ) → sum_worth other sizes ≡ neg_ℤ (sum_worth sum sizes)
+  pub dense : length other.by.items ≡ length sum.by.items
+  pub bulky : bulk other ≡ bulk sum

@@ -1,0 +1,39 @@
+-- Rows and sums with one coefficient a symbol, and what they are worth at given sizes; this project's own.
+use Rattle.std.specs.Prelude.{◌≡◌, ℕ, ◌+◌, ◌≤◌, List, [], ◌∷◌, length, All, ℤ, pos, ◌+ℤ◌, ◌*ℤ◌, ◌≤ℤ◌, unsigned_abs}
+use Rattle.elastic_ast.specs.declared.flat.Linear.{Linear}
+use Rattle.elastic_ast.specs.declared.flat.Terms.{Terms}
+
+-- each coefficient times the size of its symbol, added up
+abbrev pub dot : List ℤ → List ℕ → ℤ
+dot [] sizes = pos 0
+dot (by ∷ rest) [] = pos 0
+dot (by ∷ rest) (size ∷ sizes) = (pos size *ℤ by) +ℤ dot rest sizes
+
+abbrev pub RowHolds : List ℕ → Linear → Type 0
+RowHolds sizes row = dot row.by sizes ≤ℤ row.most
+
+-- every row holds at these sizes
+abbrev pub RowsHold : List Linear → List ℕ → Type 0
+RowsHold rows sizes = All (RowHolds sizes) rows
+
+-- the utility that the terms give at these sizes; step tables are none yet
+abbrev pub worth : Terms → List ℕ → ℤ
+worth terms sizes = terms.base +ℤ dot terms.by sizes
+
+-- the absolute values of the coefficients, added up
+abbrev pub weight : List ℤ → ℕ
+weight [] = 0
+weight (by ∷ rest) = unsigned_abs by + weight rest
+
+-- a sum over this many symbols that no size of 64 bits can bring out of 128 bits
+pub record IsShort (symbols : ℕ) (by : List ℤ) (constant : ℤ) : Type 0 where
+  pub dense : length by ≡ symbols
+  pub small : weight by ≤ 64000000000
+  pub near : unsigned_abs constant ≤ 64000000001
+
+-- the terms have one coefficient a symbol, and none that is large
+pub record AreShort (terms : Terms) : Type 0 where
+  pub rows : All (λ row. IsShort (length terms.symbols) row.by row.most) terms.rows
+  pub utility : IsShort (length terms.symbols) terms.by terms.base
+  pub ones : terms.ones ≡ []
+  pub steps : terms.steps ≡ []

@@ -1,0 +1,167 @@
+//! The terms of a program.
+
+ghost use Rattle.std.specs.Prelude.{◌≡◌, ◌↔◌, ◌≤◌, ◌++◌, true, [], List, ℕ, IfOk, OnOk, length};
+ghost use Rattle.std.specs.List.{list_all};
+ghost use Rattle.elastic_ast.specs.Seen.{seen_decl, seen_decls};
+ghost use Rattle.elastic_ast.specs.Sums.{symbol_name, symbols_of, comps_of as comps_of_decl, comparisons, utility_terms, utility, util_value, Assumes};
+ghost use Rattle.width_check.specs.Sound.{IsSound};
+ghost use Rattle.size_terms.specs.Rows.{RowsHold, AreShort, worth};
+ghost use Rattle.size_terms.specs.Building.{AddsComps, is_short, is_near_util, IsUtility};
+ghost use Rattle.size_terms.specs.Growth.{Grows, bulk};
+
+use crate::comparisons::push_comparison;
+use crate::places::Places;
+use crate::sums::{Sum, add_term, zero_sum};
+use elastic_ast::{Comp, Decl, Linear, Terms, UtilTerm};
+use elx_bits::{Items, Name};
+use std::alloc::{AllocError, Global};
+use width_check::{Checked, program};
+
+/// The names of the symbols, in the order of declaration.
+fn symbol_names(alloc: Global, decls: &[Decl]) -> Result<Items<Name>, AllocError>
+    ensures { IfOk result (λ names. names ≡ symbols_of (seen_decls decls.now)) }
+{
+    let mut names = Items::new(alloc);
+    for decl in decls {
+        push_symbol(alloc, &mut names, decl)?;
+    }
+    Ok(names)
+}
+
+fn push_symbol(alloc: Global, names: &mut Items<Name>, decl: &Decl) -> Result<(), AllocError>
+    ensures { OnOk result (names.new ≡ names.old ++ symbol_name (seen_decl decl.now)) }
+{
+    if let Decl::Symbol(name) = decl {
+        let copy = Name::of(alloc, name.as_slice())?;
+        names.push(copy)?;
+    }
+    Ok(())
+}
+
+/// Adds the rows of comparisons.
+fn push_comparisons(
+    alloc: Global,
+    places: &Places<'_>,
+    symbols: usize,
+    rows: &mut Items<Linear>,
+    comps: &[Comp],
+) -> Result<(), AllocError>
+    requires dense { symbols ≡ length places.now }
+    requires short { list_all is_short comps.now ≡ true }
+    ensures { OnOk result (AddsComps places.now rows.old rows.new comps.now) }
+{
+    for comp in comps {
+        push_comparison(alloc, places, symbols, rows, comp)?;
+    }
+    Ok(())
+}
+
+/// The rows of all assume clauses.
+fn rows_of(
+    alloc: Global,
+    places: &Places<'_>,
+    symbols: usize,
+    decls: &[Decl],
+) -> Result<Items<Linear>, AllocError>
+    requires dense { symbols ≡ length places.now }
+    requires short { list_all is_short (comparisons (seen_decls decls.now)) ≡ true }
+    ensures { IfOk result (λ rows. AddsComps places.now [] rows (comparisons (seen_decls decls.now))) }
+{
+    let mut rows = Items::new(alloc);
+    for decl in decls {
+        push_comparisons(alloc, places, symbols, &mut rows, comps_of(decl))?;
+    }
+    Ok(rows)
+}
+
+/// The comparisons of a declaration.
+fn comps_of<'a>(decl: &'a Decl) -> &'a [Comp]
+    ensures { result.now ≡ comps_of_decl (seen_decl decl.now) }
+{
+    match decl {
+        Decl::Assume(comps) => comps.as_slice(),
+        _ => &[],
+    }
+}
+
+/// The terms of the utility, none where none is declared.
+fn util_terms_of<'a>(decls: &'a [Decl]) -> &'a [UtilTerm]
+    ensures { result.now ≡ utility_terms (seen_decls decls.now) }
+{
+    for decl in decls {
+        if let Decl::Maximize(terms) = decl {
+            return terms.as_slice();
+        }
+    }
+    &[]
+}
+
+/// Adds a term of the utility.
+fn add_util(places: &Places<'_>, sum: &mut Sum, term: &UtilTerm)
+    requires dense { length sum.old.by.items ≡ length places.now }
+    requires small { bulk sum.old ≤ 64000000000 }
+    requires near { is_near_util term.now ≡ true }
+    ensures { Grows sum.old sum.new (λ sizes. util_value places.now sizes term.now) 1000000000 }
+{
+    if let UtilTerm::Lin(term) = term {
+        add_term(places, sum, term, false);
+    }
+}
+
+/// The utility as a sum.
+fn utility_sum(
+    alloc: Global,
+    places: &Places<'_>,
+    symbols: usize,
+    terms: &[UtilTerm],
+) -> Result<Sum, AllocError>
+    requires dense { symbols ≡ length places.now }
+    requires few { length terms.now ≤ 64 }
+    requires near { list_all is_near_util terms.now ≡ true }
+    ensures { IfOk result (IsUtility places.now terms.now) }
+{
+    let mut sum = zero_sum(alloc, symbols)?;
+    for term in terms {
+        add_util(places, &mut sum, term);
+    }
+    Ok(sum)
+}
+
+/// What a checked program says of its sizes: its symbols in the order of declaration, a row or two for each comparison of
+/// its assume clauses, and its utility. The rows hold at sizes exactly where every comparison is true, and the utility is
+/// worth what the program's is. The one error is want of memory.
+pub fn terms(alloc: Global, checked: &Checked) -> Result<Terms, AllocError>
+    ensures symbols { IfOk result (λ terms. terms.symbols ≡ symbols_of (seen_decls checked.now)) }
+    ensures assumes { IfOk result (λ terms. (sizes : List ℕ) → RowsHold terms.rows sizes ↔ Assumes (seen_decls checked.now) sizes) }
+    ensures utility { IfOk result (λ terms. (sizes : List ℕ) → worth terms sizes ≡ utility (seen_decls checked.now) sizes) }
+    ensures short { IfOk result AreShort }
+{
+    let decls = program(checked).decls.as_slice();
+    let symbols = symbol_names(alloc, decls)?;
+    let (rows, sum) = rows_and_utility(alloc, symbols.as_slice(), decls)?;
+    let Sum { by, constant } = sum;
+    Ok(Terms {
+        symbols,
+        rows,
+        ones: Items::new(alloc),
+        base: constant,
+        by: Items::from_vec(by),
+        steps: Items::new(alloc),
+    })
+}
+
+/// The rows and the utility of declarations over their symbols.
+fn rows_and_utility(
+    alloc: Global,
+    symbols: &[Name],
+    decls: &[Decl],
+) -> Result<(Items<Linear>, Sum), AllocError>
+    requires { IsSound (seen_decls decls.now) }
+    ensures rows { IfOk result (λ found. AddsComps symbols.now [] found.0 (comparisons (seen_decls decls.now))) }
+    ensures utility { IfOk result (λ found. IsUtility symbols.now (utility_terms (seen_decls decls.now)) found.1) }
+{
+    let places = Places::of(alloc, symbols)?;
+    let rows = rows_of(alloc, &places, symbols.len(), decls)?;
+    let sum = utility_sum(alloc, &places, symbols.len(), util_terms_of(decls))?;
+    Ok((rows, sum))
+}

@@ -1,0 +1,14 @@
+//! The assume clauses and the utility of a program, as rows and terms with one coefficient a symbol.
+#![tactic(auto)]
+
+mod building;
+mod comparisons;
+mod places;
+mod sums;
+#[cfg(test)]
+mod tests;
+mod worth;
+
+pub use building::terms;
+pub use places::Places;
+pub use worth::{holds, utility};

@@ -1,0 +1,6 @@
+use Rattle.std.proofs.Common.{sym, ◌∙◌}
+use Rattle.spelling.proofs.Places.{takes_word}
+use Rattle.spelling.proofs.reader.Reader.name.Goals as goal
+
+pub returns-clause-taken : goal.returns-clause-taken
+returns-clause-taken c = takes_word c.in-Some.ensures.words (c.in-Name.is, sym (c.in-Ok.ensures ∙ c.piece.ensures))

@@ -1,0 +1,49 @@
+-- What a reader has taken of the words before it, this project's own.
+use Rattle.std.specs.Prelude.{◌≡◌, ℕ, ◌-◌, ◌^◌, ◌<◌, min, List, ◌++◌, drop, length, Result, Ok, Err}
+use Rattle.spelling.specs.Words.{Word, words}
+use Rattle.spelling.specs.Grammar.{Grammar}
+use Rattle.spelling.specs.declared.error.SyntaxError.{SyntaxError}
+use Rattle.spelling.specs.declared.error.SyntaxError.TheVariants as error
+use Rattle.spelling.specs.declared.reader.Reader.{Reader}
+
+-- the words from the reader's place on
+abbrev pub ahead : Reader → List Word
+ahead reader = words reader.text.now (drop reader.next reader.tokens.now)
+
+-- the number of the reader's token, or the greatest number of 32 bits
+abbrev pub place : Reader → ℕ
+place reader = min reader.next (2 ^ 32 - 1)
+
+-- a grammar spells the words between two places, of which there is at least one
+pub record Takes (Of : Grammar) (before : List Word) (after : List Word) : Type 0 where
+  pub front : List Word
+  pub joined : before ≡ front ++ after
+  pub spelled : Of front
+  pub fewer : length after < length before
+
+-- a grammar spells the words between two places, perhaps none
+pub record MayTake (Of : Grammar) (before : List Word) (after : List Word) : Type 0 where
+  pub front : List Word
+  pub joined : before ≡ front ++ after
+  pub spelled : Of front
+
+-- A reader may refuse what stands before it: for want of memory, or else at its own place, and then what it reads
+-- doesn't stand there.
+abbrev pub MayRefuse : Type 0 → ℕ → SyntaxError → Type 0
+MayRefuse Stands at error.Memory = Unit {0}
+MayRefuse Stands at (error.NotProgram token) = (token ≡ at) × (Stands → ⊥)
+MayRefuse Stands at (error.TooDeep token) = ⊥
+
+-- the same of a reader of an opening bracket, which the depth may forbid
+abbrev pub MayNotOpen : Type 0 → ℕ → ℕ → SyntaxError → Type 0
+MayNotOpen Stands depth at error.Memory = ⊥
+MayNotOpen Stands depth at (error.NotProgram token) = (token ≡ at) × (Stands → ⊥)
+MayNotOpen Stands depth at (error.TooDeep token) = (token ≡ at) × Stands × (depth ≡ 0)
+
+-- What a reader must answer where the words before it spell x and end at `rest`: x, and it stops there; or it wants
+-- memory.
+abbrev pub IsAnswer : {A B : Type 0} → (A → B) → B → List Word → List Word → Result A SyntaxError → Type 0
+IsAnswer seen x rest after (Ok y) = (seen y ≡ x) × (after ≡ rest)
+IsAnswer seen x rest after (Err error.Memory) = Unit {0}
+IsAnswer seen x rest after (Err (error.NotProgram token)) = ⊥
+IsAnswer seen x rest after (Err (error.TooDeep token)) = ⊥

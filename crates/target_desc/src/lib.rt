@@ -1,0 +1,8 @@
+//! The description of a target: how many stages a switch has, and what each stage offers.
+#![tactic(auto)]
+
+mod reading;
+mod target;
+
+pub use reading::{at_most_one_target, read};
+pub use target::{Target, TargetError};

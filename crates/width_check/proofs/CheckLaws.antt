@@ -1,0 +1,102 @@
+-- What a declaration breaks, part by part, and the walk over the declarations.
+use Rattle.std.proofs.Common.{◌&&◌, ◌≡◌, ℕ, zero, suc, ◌+◌, ◌<◌, Bool, true, false, List, [], ◌∷◌, ◌++◌, take, drop, length, get_or, Option, Some, None, refl, sym, ap, ◌∙◌, true≢false, arith}
+use Rattle.std.specs.Prelude.{if◌then◌else◌, option_map, slice_get}
+use Rattle.elastic_ast.specs.declared.declarations.Decl.{Decl}
+use Rattle.elastic_ast.specs.declared.rule.Rule.{Rule}
+use Rattle.elastic_ast.specs.declared.rule.Rule.TheVariants.{Twice}
+use Rattle.elastic_ast.specs.Tree.{PlainDecl}
+use Rattle.elastic_ast.specs.Seen.{seen_decl, seen_decls}
+use Rattle.elastic_ast.specs.Scope.{or_else}
+use Rattle.elastic_ast.specs.Demand.{Demand, First, Plain, met, rule_of, first_broken}
+use Rattle.elastic_ast.specs.Asked.{asks_names, asks_decl, asked, top_name, top_names, is_first}
+use Rattle.elastic_ast.specs.Typed.{broken_rule, first_of}
+use Rattle.elastic_ast.proofs.First.{first-append}
+use Rattle.std.specs.List.{list_all}
+use Rattle.width_check.specs.Begun.{is_begun}
+use Rattle.width_check.specs.Scoped.{before_of, next_names, name_broken}
+use Rattle.width_check.proofs.ScopeLaws.{step_take}
+use Rattle.width_check.proofs.Steps.{items_drop}
+
+-- the rule that a declaration breaks beside its name
+abbrev pub other_broken : Bool → Bool → Option Rule → Option Rule
+other_broken allow first own = if first then own else Some Twice
+
+pub broken_parts : (allow : Bool) (before : List PlainDecl) (d : PlainDecl) (first : Bool) → first ≡ is_first before d
+    → broken_rule allow before d ≡ or_else (first_broken allow (asks_names (top_names before) (top_name d))) (other_broken allow first (first_broken allow (asks_decl before d)))
+unfolding broken_rule
+broken_parts allow before d first e =
+    first-append allow (asks_names (top_names before) (top_name d)) (First (is_first before d) ∷ asks_decl before d)
+    ∙ ap (λ b. or_else (first_broken allow (asks_names (top_names before) (top_name d))) (other_broken allow b (first_broken allow (asks_decl before d)))) (sym e)
+
+got_suc : (ds : List Decl) (i : ℕ) (d : Decl) → slice_get ds i ≡ Some d → next_names (drop i ds) ≡ top_name (seen_decl d)
+got_suc [] i d e = cc
+got_suc (x ∷ ds) zero d e = let s : x ≡ d = cc in ap (λ z. top_name (seen_decl z)) s
+got_suc (x ∷ ds) (suc i) d e = got_suc ds i d e
+
+pub got_within : {X : Type 0} (ds : List X) (i : ℕ) (d : X) → slice_get ds i ≡ Some d → i < length ds
+got_within [] i d e = cc
+got_within (x ∷ ds) zero d e = omega arith
+got_within (x ∷ ds) (suc i) d e = let h : i < length ds = got_within ds i d e in omega arith
+
+-- the rule that the next declaration breaks, by the scope
+pub next_parts : (allow : Bool) (place : List Decl × ℕ) (d : Decl) (first : Bool) → slice_get place.0 place.1 ≡ Some d → first ≡ is_first (before_of place) (seen_decl d)
+    → broken_rule allow (before_of place) (seen_decl d) ≡ or_else (name_broken allow place) (other_broken allow first (first_broken allow (asks_decl (before_of place) (seen_decl d))))
+next_parts allow place d first here e =
+    broken_parts allow (before_of place) (seen_decl d) first e
+    ∙ ap (λ z. or_else (first_broken allow (asks_names (top_names (before_of place)) z)) (other_broken allow first (first_broken allow (asks_decl (before_of place) (seen_decl d))))) (sym (got_suc place.0 place.1 d here))
+
+-- the element of an index
+pub got : {X : Type 0} (xs : List X) (i : ℕ) (x : X) → i < length xs → x ≡ get_or xs i x → slice_get xs i ≡ Some x
+got [] i x h e = absurd (omega arith)
+got (y ∷ ys) zero x h e = ap Some (sym e)
+got (y ∷ ys) (suc i) x h e = got ys i x (omega arith) e
+
+pub seen_at : (ds : List Decl) (i : ℕ) (d : Decl) → i < length ds → d ≡ get_or ds i d → slice_get (seen_decls ds) i ≡ Some (seen_decl d)
+seen_at [] i d h e = absurd (omega arith)
+seen_at (y ∷ ys) zero d h e = ap (λ z. Some (seen_decl z)) (sym e)
+seen_at (y ∷ ys) (suc i) d h e = seen_at ys i d (omega arith) e
+
+-- one step of the walk over the declarations
+step_of : (f : List PlainDecl → PlainDecl → Option Rule) (ds : List Decl) (i : ℕ) (d : Decl) (whole : Option (Rule × ℕ)) → i < length ds → d ≡ get_or ds i d → first_of f i (seen_decls (take i ds)) (seen_decls (drop i ds)) ≡ whole
+    → or_else (option_map (λ r. let p : Rule × ℕ = (r, i) in p) (f (seen_decls (take i ds)) (seen_decl d))) (first_of f (i + 1) (seen_decls (take (i + 1) ds)) (seen_decls (drop (i + 1) ds))) ≡ whole
+step_of f ds i d whole h e inv =
+    ap (λ z. or_else (option_map (λ r. let p : Rule × ℕ = (r, i) in p) (f (seen_decls (take i ds)) (seen_decl d))) (first_of f (i + 1) z (seen_decls (drop (i + 1) ds)))) (step_take ds i d h e)
+    ∙ ap (λ z. first_of f i (seen_decls (take i ds)) (seen_decls z)) (sym (items_drop ds i d h e)) ∙ inv
+
+pub walk_on : (f : List PlainDecl → PlainDecl → Option Rule) (ds : List Decl) (i : ℕ) (d : Decl) (whole : Option (Rule × ℕ)) → i < length ds → d ≡ get_or ds i d → f (seen_decls (take i ds)) (seen_decl d) ≡ None
+    → first_of f i (seen_decls (take i ds)) (seen_decls (drop i ds)) ≡ whole → first_of f (i + 1) (seen_decls (take (i + 1) ds)) (seen_decls (drop (i + 1) ds)) ≡ whole
+walk_on f ds i d whole h e fine inv =
+    sym (ap (λ z. or_else (option_map (λ r. let p : Rule × ℕ = (r, i) in p) z) (first_of f (i + 1) (seen_decls (take (i + 1) ds)) (seen_decls (drop (i + 1) ds)))) fine) ∙ step_of f ds i d whole h e inv
+
+pub walk_stops : (f : List PlainDecl → PlainDecl → Option Rule) (ds : List Decl) (i : ℕ) (d : Decl) (rule : Rule) (whole : Option (Rule × ℕ)) → i < length ds → d ≡ get_or ds i d → f (seen_decls (take i ds)) (seen_decl d) ≡ Some rule
+    → first_of f i (seen_decls (take i ds)) (seen_decls (drop i ds)) ≡ whole → whole ≡ Some (rule, i)
+walk_stops f ds i d rule whole h e broken inv =
+    sym (step_of f ds i d whole h e inv) ∙ ap (λ z. or_else (option_map (λ r. let p : Rule × ℕ = (r, i) in p) z) (first_of f (i + 1) (seen_decls (take (i + 1) ds)) (seen_decls (drop (i + 1) ds)))) broken
+
+-- what is typed is typed where reserved names are allowed too
+allowed : (q : Demand) → met false q ≡ true → met true q ≡ true
+allowed (Plain n) h = refl
+allowed (First k) h = h
+allowed _ h = h
+
+weaker : (a b : Bool) (r : Rule) (x y : Option Rule) → (a ≡ true → b ≡ true) → (x ≡ None → y ≡ None) → (if a then x else Some r) ≡ None → (if b then y else Some r) ≡ None
+weaker true true r x y p q h = q h
+weaker true false r x y p q h = absurd (true≢false (sym (p refl)))
+weaker false b r x y p q h = cc
+
+first_allowed : (qs : List Demand) → first_broken false qs ≡ None → first_broken true qs ≡ None
+first_allowed [] h = refl
+first_allowed (q ∷ qs) h = weaker (met false q) (met true q) (rule_of q) (first_broken false qs) (first_broken true qs) (allowed q) (first_allowed qs) h
+
+pub sound_of : (allow : Bool) (k : ℕ) (before ds : List PlainDecl) → first_of (broken_rule allow) k before ds ≡ None → first_of (broken_rule true) k before ds ≡ None
+unfolding broken_rule
+sound_of true k before ds h = h
+sound_of false k before [] h = refl
+sound_of false k before (d ∷ ds) h = by (first_broken false (asked before d)) (first_broken true (asked before d)) (first_allowed (asked before d)) _ _ (sound_of false (k + 1) (before ++ d ∷ []) ds) h
+  where
+    by : (x y : Option Rule) → (x ≡ None → y ≡ None) → (u v : Option (Rule × ℕ)) → (u ≡ None → v ≡ None) → or_else (option_map (λ r. let p : Rule × ℕ = (r, k) in p) x) u ≡ None → or_else (option_map (λ r. let p : Rule × ℕ = (r, k) in p) y) v ≡ None
+    by None y p u v q h = ap (λ z. or_else (option_map (λ r. let p : Rule × ℕ = (r, k) in p) z) v) (p refl) ∙ q h
+    by (Some x) y p u v q h = cc
+
+pub begun_step : (ds : List Decl) (i : ℕ) (d : Decl) (whole : Bool) → i < length ds → d ≡ get_or ds i d → is_begun (seen_decl d) ≡ true → list_all is_begun (seen_decls (drop i ds)) ≡ whole → list_all is_begun (seen_decls (drop (i + 1) ds)) ≡ whole
+begun_step ds i d whole h e begun inv = ap (λ b. b && list_all is_begun (seen_decls (drop (i + 1) ds))) (sym begun) ∙ ap (λ z. list_all is_begun (seen_decls z)) (sym (items_drop ds i d h e)) ∙ inv

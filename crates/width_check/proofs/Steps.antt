@@ -1,0 +1,48 @@
+-- One step through a list whose elements each ask something.
+use Rattle.std.proofs.Common.{◌≡◌, ℕ, zero, suc, ◌+◌, ◌<◌, Bool, List, [], ◌∷◌, drop, length, get_or, Option, Some, None, sym, ap, ◌∙◌, arith, add-one}
+use Rattle.std.specs.Prelude.{flat_map, Result, Ok, Err, OnOk, IfErr}
+use Rattle.elastic_ast.specs.declared.rule.Rule.{Rule}
+use Rattle.elastic_ast.specs.Scope.{or_else}
+use Rattle.elastic_ast.specs.Demand.{Demand, first_broken}
+use Rattle.elastic_ast.proofs.First.{first-append}
+use Rattle.width_check.specs.Table.{IsRefusal}
+use Rattle.width_check.specs.declared.table.Refusal.{Refusal}
+use Rattle.width_check.specs.declared.table.Refusal.TheVariants as refusal
+
+pub items_drop : {X : Type 0} (xs : List X) (i : ℕ) (x : X) → i < length xs → x ≡ get_or xs i x → drop i xs ≡ x ∷ drop (i + 1) xs
+items_drop xs i x h e = suc_step xs i x h e ∙ ap (λ k. x ∷ drop k xs) (sym (add-one i))
+  where
+    suc_step : {X : Type 0} (xs : List X) (i : ℕ) (x : X) → i < length xs → x ≡ get_or xs i x → drop i xs ≡ x ∷ drop (suc i) xs
+    suc_step [] i x h e = absurd (omega arith)
+    suc_step (y ∷ ys) zero x h e = ap (λ z. z ∷ ys) (sym e)
+    suc_step (y ∷ ys) (suc i) x h e = suc_step ys i x (omega arith) e
+
+items_step : {X : Type 0} (allow : Bool) (f : X → List Demand) (xs : List X) (i : ℕ) (x : X) → i < length xs → x ≡ get_or xs i x
+    → first_broken allow (flat_map f (drop i xs)) ≡ or_else (first_broken allow (f x)) (first_broken allow (flat_map f (drop (i + 1) xs)))
+items_step allow f xs i x h e = ap (λ z. first_broken allow (flat_map f z)) (items_drop xs i x h e) ∙ first-append allow (f x) (flat_map f (drop (i + 1) xs))
+
+-- the rule that one element breaks first is the one that the list breaks first
+pub stops : {X : Type 0} (allow : Bool) (f : X → List Demand) (xs : List X) (i : ℕ) (x : X) (rule : Rule) (whole : Option Rule) → i < length xs → x ≡ get_or xs i x → Some rule ≡ first_broken allow (f x)
+    → first_broken allow (flat_map f (drop i xs)) ≡ whole → Some rule ≡ whole
+stops allow f xs i x rule whole h e a inv = ap (λ z. or_else z (first_broken allow (flat_map f (drop (i + 1) xs)))) a ∙ sym (items_step allow f xs i x h e) ∙ inv
+
+pub goes_on : {X : Type 0} (allow : Bool) (f : X → List Demand) (xs : List X) (i : ℕ) (x : X) (whole : Option Rule) → i < length xs → x ≡ get_or xs i x → None ≡ first_broken allow (f x)
+    → first_broken allow (flat_map f (drop i xs)) ≡ whole → first_broken allow (flat_map f (drop (i + 1) xs)) ≡ whole
+goes_on allow f xs i x whole h e a inv = ap (λ z. or_else z (first_broken allow (flat_map f (drop (i + 1) xs)))) a ∙ sym (items_step allow f xs i x h e) ∙ inv
+
+-- two parts, one after the other
+pub fine_both : {T : Type 0} (r : Result T Refusal) (a b whole : Option Rule) → OnOk r (b ≡ None) → a ≡ None → whole ≡ or_else a b → OnOk r (whole ≡ None)
+fine_both (Ok x) a b whole p q e = e ∙ ap (λ z. or_else z b) q ∙ p
+fine_both (Err x) a b whole p q e = p
+
+refusal_along : (r : Refusal) (a b : Option Rule) → IsRefusal r a → a ≡ b → IsRefusal r b
+refusal_along refusal.Memory a b p e = tt
+refusal_along (refusal.Broken rule) a b p e = sym e ∙ p
+
+pub refused_second : {T : Type 0} (r : Result T Refusal) (a b whole : Option Rule) → IfErr r (λ w. IsRefusal w b) → a ≡ None → whole ≡ or_else a b → IfErr r (λ w. IsRefusal w whole)
+refused_second (Ok x) a b whole p q e = p
+refused_second (Err w) a b whole p q e = refusal_along w b whole p (sym (e ∙ ap (λ z. or_else z b) q))
+
+pub refused_first : (r : Refusal) (a b whole : Option Rule) → IsRefusal r a → whole ≡ or_else a b → IsRefusal r whole
+refused_first refusal.Memory a b whole p e = tt
+refused_first (refusal.Broken rule) a b whole p e = e ∙ ap (λ z. or_else z b) p

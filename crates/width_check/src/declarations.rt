@@ -1,0 +1,207 @@
+//! What each declaration asks, over the scope before it.
+
+ghost use Rattle.std.specs.Prelude.{◌≡◌, [], map, flat_map, IfOk, IfErr, OnOk, None};
+ghost use Rattle.elastic_ast.specs.Seen.{seen_decl};
+ghost use Rattle.elastic_ast.specs.Scope.{or_else};
+ghost use Rattle.elastic_ast.specs.Demand.{first_broken};
+ghost use Rattle.elastic_ast.specs.Asked.{asks_symbol, asks_term, asks_comp, asks_util, asks_field, asks_fields, asks_decl, asks_names, field_name};
+ghost use Rattle.width_check.specs.Table.{IsRefusal};
+ghost use Rattle.width_check.specs.Scoped.{before_of};
+
+use crate::scope::Scope;
+use crate::table::{Refusal, put};
+use elastic_ast::{Comp, Decl, Field, LinTerm, Rule, UtilTerm};
+use elx_bits::Name;
+use indexmap::IndexMap;
+use std::alloc::Global;
+
+/// The greatest number in `assume` and `maximize`.
+const MOST_NUMBER: u64 = 1_000_000_000;
+
+/// The most terms of one comparison, and of one utility.
+const MOST_TERMS: usize = 64;
+
+/// The first of two broken rules.
+fn either(first: Option<Rule>, second: Option<Rule>) -> Option<Rule>
+    ensures { result ≡ or_else first second }
+{
+    match first {
+        Some(rule) => Some(rule),
+        None => second,
+    }
+}
+
+/// Whether a name that stands for a size is that of a symbol.
+fn check_symbol(allow_reserved: bool, scope: &Scope<'_>, symbol: &Option<Name>) -> Option<Rule>
+    ensures { result ≡ first_broken allow_reserved (asks_symbol (before_of scope.now) symbol.now) }
+{
+    match symbol {
+        Some(name) => {
+            if scope.is_symbol(name) {
+                None
+            } else {
+                Some(Rule::UnknownName)
+            }
+        }
+        None => None,
+    }
+}
+
+fn check_term(allow_reserved: bool, scope: &Scope<'_>, term: &LinTerm) -> Option<Rule>
+    ensures { result ≡ first_broken allow_reserved (asks_term (before_of scope.now) term.now) }
+{
+    if term.by > MOST_NUMBER {
+        return Some(Rule::BadTerm);
+    }
+    check_symbol(allow_reserved, scope, &term.symbol)
+}
+
+fn check_terms(allow_reserved: bool, scope: &Scope<'_>, terms: &[LinTerm]) -> Option<Rule>
+    ensures { result ≡ first_broken allow_reserved (flat_map (asks_term (before_of scope.now)) terms.now) }
+{
+    for term in terms {
+        match check_term(allow_reserved, scope, term) {
+            Some(rule) => return Some(rule),
+            None => {}
+        }
+    }
+    None
+}
+
+#[tactic(auto, using(elastic_ast::proofs::First::firsts))]
+fn check_comparison(allow_reserved: bool, scope: &Scope<'_>, comp: &Comp) -> Option<Rule>
+    ensures { result ≡ first_broken allow_reserved (asks_comp (before_of scope.now) comp.now) }
+{
+    let (left, right) = (comp.left.as_slice(), comp.right.as_slice());
+    if left.len() > MOST_TERMS || right.len() > MOST_TERMS - left.len() {
+        return Some(Rule::BadTerm);
+    }
+    either(
+        check_terms(allow_reserved, scope, left),
+        check_terms(allow_reserved, scope, right),
+    )
+}
+
+#[tactic(auto, using(elastic_ast::proofs::First::firsts))]
+fn check_assume(allow_reserved: bool, scope: &Scope<'_>, comps: &[Comp]) -> Option<Rule>
+    ensures { result ≡ first_broken allow_reserved (flat_map (asks_comp (before_of scope.now)) comps.now) }
+{
+    for comp in comps {
+        match check_comparison(allow_reserved, scope, comp) {
+            Some(rule) => return Some(rule),
+            None => {}
+        }
+    }
+    None
+}
+
+fn check_util(allow_reserved: bool, scope: &Scope<'_>, term: &UtilTerm) -> Option<Rule>
+    ensures { result ≡ first_broken allow_reserved (asks_util (before_of scope.now) term.now) }
+{
+    match term {
+        UtilTerm::Lin(term) => check_term(allow_reserved, scope, term),
+        UtilTerm::Steps {
+            minus: _,
+            symbol: _,
+            pairs: _,
+        } => None,
+    }
+}
+
+#[tactic(auto, using(elastic_ast::proofs::First::firsts))]
+fn check_utility(allow_reserved: bool, scope: &Scope<'_>, terms: &[UtilTerm]) -> Option<Rule>
+    ensures { result ≡ first_broken allow_reserved (flat_map (asks_util (before_of scope.now)) terms.now) }
+{
+    for term in terms {
+        match check_util(allow_reserved, scope, term) {
+            Some(rule) => return Some(rule),
+            None => {}
+        }
+    }
+    None
+}
+
+fn check_field(allow_reserved: bool, scope: &Scope<'_>, field: &Field) -> Option<Rule>
+    ensures { result ≡ first_broken allow_reserved (asks_field (before_of scope.now) field.now) }
+{
+    if field.width < 1 || field.width > 128 {
+        return Some(Rule::Width);
+    }
+    check_symbol(allow_reserved, scope, &field.size)
+}
+
+#[tactic(auto, using(elastic_ast::proofs::First::firsts))]
+fn check_fields(allow_reserved: bool, scope: &Scope<'_>, fields: &[Field]) -> Option<Rule>
+    ensures { result ≡ first_broken allow_reserved (flat_map (asks_field (before_of scope.now)) fields.now) }
+{
+    for field in fields {
+        match check_field(allow_reserved, scope, field) {
+            Some(rule) => return Some(rule),
+            None => {}
+        }
+    }
+    None
+}
+
+/// Whether the names of fields may stand in one scope.
+fn check_field_names(alloc: Global, allow_reserved: bool, fields: &[Field]) -> Result<(), Refusal>
+    ensures fresh { OnOk result (first_broken allow_reserved (asks_names [] (map field_name fields.now)) ≡ None) }
+    ensures refused { IfErr result (λ refusal. IsRefusal refusal (first_broken allow_reserved (asks_names [] (map field_name fields.now)))) }
+{
+    let mut names: IndexMap<&[u8], ()> = IndexMap::new(alloc);
+    for field in fields {
+        match put(&mut names, field.name.as_slice(), (), allow_reserved) {
+            Ok(()) => {}
+            Err(refusal) => return Err(refusal),
+        }
+    }
+    Ok(())
+}
+
+fn refusal_of(broken: Option<Rule>) -> Result<(), Refusal>
+    ensures fine { OnOk result (broken ≡ None) }
+    ensures refused { IfErr result (λ refusal. IsRefusal refusal broken) }
+{
+    match broken {
+        Some(rule) => Err(Refusal::Broken(rule)),
+        None => Ok(()),
+    }
+}
+
+fn check_metadata(
+    alloc: Global,
+    allow_reserved: bool,
+    scope: &Scope<'_>,
+    fields: &[Field],
+) -> Result<(), Refusal>
+    ensures fine { OnOk result (first_broken allow_reserved (asks_fields (before_of scope.now) fields.now) ≡ None) }
+    ensures refused { IfErr result (λ refusal. IsRefusal refusal (first_broken allow_reserved (asks_fields (before_of scope.now) fields.now))) }
+{
+    match check_field_names(alloc, allow_reserved, fields) {
+        Ok(()) => refusal_of(check_fields(allow_reserved, scope, fields)),
+        Err(refusal) => Err(refusal),
+    }
+}
+
+/// The first rule that a declaration breaks by what stands in it.
+pub fn check_declaration(
+    alloc: Global,
+    allow_reserved: bool,
+    scope: &Scope<'_>,
+    decl: &Decl,
+) -> Result<(), Refusal>
+    ensures fine { OnOk result (first_broken allow_reserved (asks_decl (before_of scope.now) (seen_decl decl.now)) ≡ None) }
+    ensures refused { IfErr result (λ refusal. IsRefusal refusal (first_broken allow_reserved (asks_decl (before_of scope.now) (seen_decl decl.now)))) }
+{
+    match decl {
+        Decl::Assume(comps) => refusal_of(check_assume(allow_reserved, scope, comps.as_slice())),
+        Decl::Maximize(terms) => {
+            if terms.as_slice().len() > MOST_TERMS {
+                return Err(Refusal::Broken(Rule::BadTerm));
+            }
+            refusal_of(check_utility(allow_reserved, scope, terms.as_slice()))
+        }
+        Decl::Meta(fields) => check_metadata(alloc, allow_reserved, scope, fields.as_slice()),
+        _ => Ok(()),
+    }
+}

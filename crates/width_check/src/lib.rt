@@ -1,0 +1,12 @@
+//! The rules of types.
+#![tactic(auto)]
+
+mod checking;
+mod declarations;
+mod scope;
+mod table;
+#[cfg(test)]
+mod tests;
+
+pub use checking::{CheckError, Checked, TypeError, check, program};
+pub use elastic_ast::Rule;
