@@ -1,6 +1,6 @@
 -- A shelf or a sink in memory whose calls fail by plan: its content, the numbers of the calls that are to fail, the
 -- calls made so far and the faults so far. This project's own.
-use Rattle.std.specs.Prelude.{◌≡◌, ℕ, List, refl, Contains, None}
+use Rattle.std.specs.Prelude.{◌≡◌, ◌⊎◌, ℕ, List, refl, Contains, None}
 use Rattle.std.specs.Coded.{Coded, code_by, coded×, coded_ℕ, coded_list}
 use Rattle.std.specs.FinMap.{get}
 use Rattle.elx_io.specs.Counts.{counted}
@@ -26,3 +26,9 @@ FailsNext it = Contains it.failing (counted it.calls)
 -- there is no file of that name
 abbrev pub Lacks : Files → List ℕ → Type 0
 Lacks files name = get files name ≡ None
+
+-- one read of a name leads from one state to the other: one call more was made, and a fault came only where that call was to
+-- fail or the file is missing
+pub record IsAfterRead (before : Faulty Files) (name : List ℕ) (after : Faulty Files) : Type 0 where
+  pub calls : after.calls ≡ counted before.calls
+  pub faults : (after.faults ≡ before.faults) ⊎ (FailsNext before ⊎ Lacks before.content name)

@@ -1,7 +1,7 @@
 ghost use Rattle.std.specs.Prelude.{◌≡◌, ◌↔◌, ◌⊎◌, ◌+◌, ◌≤◌, ◌^◌, [], Some, option_map, IfOk, OnOk, OnErr, IsErrOf, length, take};
 ghost use Rattle.std.specs.FinMap as map;
 ghost use Rattle.elx_io.specs.Counts.{ShelfCounts, counted};
-ghost use Rattle.elx_io.specs.Faulty.{FailsNext, Lacks};
+ghost use Rattle.elx_io.specs.Faulty.{FailsNext, IsAfterRead, Lacks};
 ghost use Rattle.elx_io.specs.Files.{SameOthers, bytes_at};
 
 use crate::failing::FailingCalls;
@@ -72,6 +72,8 @@ impl Shelf for MemShelf {
 
     ghost faults = { λ shelf. shelf.faults };
 
+    ghost read_leads = { IsAfterRead };
+
     /// `Failed` comes at the listed calls and where the shelf lacks the name.
     fn read(&mut self, alloc: Global, name: &str, most: u64) -> Result<Items<u8>, ShelfErr>
         requires { most ≤ 2 ^ 62 }
@@ -83,6 +85,7 @@ impl Shelf for MemShelf {
         ensures fault { IsErrOf result ShelfErr.Failed → self.new.faults ≡ counted self.old.faults }
         ensures calls { self.new.calls ≡ counted self.old.calls }
         ensures failing { self.new.failing ≡ self.old.failing }
+        ensures leads { IsAfterRead self.old name.now self.new }
     {
         if self.calls.fails_now() {
             self.calls.count_fault();

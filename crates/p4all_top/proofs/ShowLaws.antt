@@ -1,5 +1,5 @@
 -- What a run prints, from the lines of its answer.
-use Rattle.std.proofs.Common.{◌≡◌, ℕ, inr, List, [], ◌∷◌, ◌++◌, length, get_or, Option, Some, None, refl, sym, subst, arith}
+use Rattle.std.proofs.Common.{◌≡◌, ℕ, ◌-◌, inr, List, [], ◌∷◌, ◌++◌, length, length-drop, take, drop, get_or, Option, Some, None, refl, sym, ap, ◌∙◌, subst, arith}
 use Rattle.std.specs.Prelude.{IfSome, IfOk, Result, Ok, Err, option_map}
 use Rattle.std.specs.declared.alloc.AllocError.{AllocError}
 use denote.Bor.{Bor}
@@ -11,6 +11,8 @@ use Rattle.p4all_top.specs.declared.sizing.Answer.{Answer}
 use Rattle.p4all_top.specs.declared.stopping.Stop.{Stop}
 use Rattle.p4all_top.specs.Stopping.{stopped}
 use Rattle.p4all_top.specs.Answer.{IsSizeAnswer, Refuses}
+use Rattle.std.proofs.lemmas.List.{take_all}
+use Rattle.p4all_top.specs.Source.{HasNoProgram}
 use Rattle.p4all_top.specs.Commands.{texts_of, text_at, IsSizeEnd, IsShown, PrintsFront, PrintsSizes, TellsSizes}
 
 -- the two words after the command
@@ -73,3 +75,15 @@ refused (Ok answer) r holds source target e s l = subst (λ (z : Result Answer S
     by None = tt
     by (Some files) = subst (λ (z : Status). IsSizeAnswer (bytes_at files source) (bytes_at files target) z answer.lines) (sym s) l
 refused (Err x) r holds source target e s l = subst (λ (z : Result Answer Stop). IfOk z (λ a. IfSome holds (λ files. IsSizeAnswer (bytes_at files source) (bytes_at files target) a.status a.lines))) (sym e) tt
+
+-- the order of the reads, by the name of the source among the words
+pub order_named : (holds : Option Files) (given name : List ℕ) (leads : List ℕ → Type 0) → given ≡ name → IfSome holds (λ files. HasNoProgram (bytes_at files given) → leads given) → IfSome holds (λ files. HasNoProgram (bytes_at files name) → leads name)
+order_named holds given name leads e h = subst (λ (z : List ℕ). IfSome holds (λ files. HasNoProgram (bytes_at files z) → leads z)) e h
+
+later_name : (words : List (Bor (List ℕ))) → text_at (texts_of (drop 1 words)) 0 ≡ text_at (texts_of words) 1
+later_name [] = refl
+later_name (x ∷ xs) = refl
+
+-- the first word after the command
+pub rest_name : (words : List (Bor (List ℕ))) → text_at (texts_of (take (length words - 1) (drop 1 words))) 0 ≡ text_at (texts_of words) 1
+rest_name words = ap (λ z. text_at (texts_of z) 0) (take_all (length words - 1) (drop 1 words) (let e = length-drop 1 words in omega (arith, e))) ∙ later_name words

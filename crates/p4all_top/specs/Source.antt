@@ -12,3 +12,7 @@ pub record IsProgram (text : List ℕ) (decls : PlainProgram) : Type 0 where
   pub tokens_are : TokensOf text tokens
   pub spelled : Spells 80 decls (words text tokens)
   pub typed : Typed false decls
+
+-- the text spells no typed program
+abbrev pub HasNoProgram : List ℕ → Type 0
+HasNoProgram text = (decls : PlainProgram) → IsProgram text decls → ⊥

@@ -20,6 +20,7 @@ pub fn read_file<S: Shelf>(
     ensures length { IfOk result (λ found. IfSome found (λ bytes. length bytes ≤ most)) }
     ensures bytes { IfOk result (λ found. IfSome found (λ bytes. IfSome (S.holds shelf.old) (λ files. bytes ≡ bytes_at files name.now))) }
     ensures kept { S.holds shelf.new ≡ S.holds shelf.old }
+    ensures leads { S.read_leads shelf.old name.now shelf.new }
     ensures counts { StopCounts (S.faults shelf.old) (S.faults shelf.new) result }
 {
     match shelf.read(alloc, name, most) {
