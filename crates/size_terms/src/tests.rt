@@ -81,9 +81,8 @@ fn maximize(alloc: Global, decls: &mut Items<Decl>, given: &[Term]) -> Result<()
     Ok(())
 }
 
-fn checked(rt: &impl Abort, alloc: Global, decls: Items<Decl>) -> Result<Checked, Fail> {
+fn checked(alloc: Global, decls: Items<Decl>) -> Result<Checked, Fail> {
     let program = Program { decls };
-    assert!(rt; program.decls.as_slice().len() <= 134_217_728);
     Ok(check(alloc, program, false)?)
 }
 
@@ -104,7 +103,7 @@ fn sizes_within_every_clause_hold_and_have_their_utility(rt: HostRuntime) -> Res
     let widest = compared(alloc, &[(PLUS, 1, COLS)], Rel::Le, &[(PLUS, 100, None)])?;
     assume(alloc, &mut decls, widest, None)?;
     maximize(alloc, &mut decls, &[(PLUS, 10, ROWS), (PLUS, 1, COLS)])?;
-    let checked = checked(&rt, alloc, decls)?;
+    let checked = checked(alloc, decls)?;
     let terms = terms(alloc, &checked)?;
     for (rows, cols, hold, worth) in [
         (3, 100, true, 130),
@@ -147,7 +146,7 @@ fn each_relation_holds_where_its_sides_are_so(rt: HostRuntime) -> Result<(), Fai
             compared(alloc, &left, rel, &right)?,
             None,
         )?;
-        let checked = checked(&rt, alloc, decls)?;
+        let checked = checked(alloc, decls)?;
         let terms = terms(alloc, &checked)?;
         for (rows, hold) in [(1, below), (2, equal), (3, above)] {
             let sizes = sizes_of(alloc, rows, 3)?;
@@ -179,7 +178,7 @@ fn sums_below_nothing_compare_as_numbers(rt: HostRuntime) -> Result<(), Fail> {
         (MINUS, 3, None),
     ];
     maximize(alloc, &mut decls, &worth)?;
-    let checked = checked(&rt, alloc, decls)?;
+    let checked = checked(alloc, decls)?;
     let terms = terms(alloc, &checked)?;
     for (rows, cols, hold, worth) in [
         (0, 0, false, 4),

@@ -18,6 +18,9 @@ use std::alloc::Global;
 use std::marker::Model;
 use thiserror::Error;
 
+/// The most declarations of a program.
+const MOST_DECLS: usize = 134_217_728;
+
 /// A rule that a program breaks, and the number of the declaration that breaks it, counted from 0.
 #[derive(Clone, Copy, Debug, PartialEq, Eq)]
 pub struct TypeError {
@@ -34,7 +37,7 @@ pub enum CheckError {
     /// A declaration has a form that the checker doesn't take yet.
     #[error("a declaration has a form that isn't checked yet")]
     NotYet,
-    /// There is no memory for the table of names.
+    /// There is no memory for the table of names, or the program has more than 134217728 declarations.
     #[error("out of memory")]
     Memory,
 }
@@ -141,12 +144,15 @@ fn walk(alloc: Global, allow_reserved: bool, decls: &[Decl]) -> Result<(), Check
 /// `Broken` names the first declaration that breaks a rule, and the first rule that it breaks. The program is given up at a
 /// refusal. The rules are this project's own.
 pub fn check(alloc: Global, program: Program, allow_reserved: bool) -> Result<Checked, CheckError>
-    requires { length program.decls ≤ 134217728 }
     ensures same { IfOk result (λ checked. checked ≡ program.decls) }
     ensures typed { OnOk result (Typed allow_reserved (seen_program program)) }
     ensures broken { IfErr result (IsBroken allow_reserved (seen_program program)) }
 {
-    match walk(alloc, allow_reserved, program.decls.as_slice()) {
+    let decls = program.decls.as_slice();
+    if decls.len() > MOST_DECLS {
+        return Err(CheckError::Memory);
+    }
+    match walk(alloc, allow_reserved, decls) {
         Ok(()) => Ok(Checked { program }),
         Err(error) => Err(error),
     }

@@ -124,13 +124,11 @@ fn program_of(alloc: Global, given: &[Given]) -> Result<Program, AllocError> {
 }
 
 fn checked(
-    rt: &impl Abort,
     alloc: Global,
     given: &[Given],
     allow_reserved: bool,
 ) -> Result<Result<Checked, CheckError>, AllocError> {
     let program = program_of(alloc, given)?;
-    assert!(rt; program.decls.as_slice().len() <= 134_217_728);
     Ok(check(alloc, program, allow_reserved))
 }
 
@@ -320,7 +318,7 @@ fn a_broken_rule_is_named_with_its_declaration(rt: HostRuntime) -> Result<(), Fa
         rule,
         decl,
     } in cases {
-        let refusal = checked(&rt, rt.alloc(), given, false)?.err();
+        let refusal = checked(rt.alloc(), given, false)?.err();
         assert_eq!(rt;
             refusal,
             Some(CheckError::Broken(TypeError { rule, decl })),
@@ -394,7 +392,7 @@ fn programs_within_the_rules_are_taken(rt: HostRuntime) -> Result<(), Fail> {
         given,
         allow_reserved,
     } in cases {
-        let taken = checked(&rt, rt.alloc(), given, allow_reserved)??;
+        let taken = checked(rt.alloc(), given, allow_reserved)??;
         assert_eq!(rt;
             program(&taken).decls.as_slice().len(),
             given.len(),
@@ -412,7 +410,7 @@ fn other_forms_are_not_taken_yet(rt: HostRuntime) -> Result<(), Fail> {
     ];
     for given in cases {
         assert_eq!(rt;
-            checked(&rt, rt.alloc(), given, true)?.err(),
+            checked(rt.alloc(), given, true)?.err(),
             Some(CheckError::NotYet)
         );
     }

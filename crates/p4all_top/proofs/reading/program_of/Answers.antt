@@ -1,4 +1,4 @@
-use Rattle.std.proofs.Common.{◌≡◌, ℕ, List, length, false, arith, sym, ap, subst}
+use Rattle.std.proofs.Common.{◌≡◌, ℕ, List, false, sym, subst}
 use Rattle.elastic_ast.specs.declared.declarations.Decl.{Decl}
 use Rattle.elastic_ast.specs.Seen.{seen_decls}
 use Rattle.elastic_ast.specs.Typed.{Typed}
@@ -12,9 +12,6 @@ use Rattle.p4all_top.proofs.reading.program_of.Goals as goal
 program_is : (text : List ℕ) (tokens given : List Token) (decls taken : List Decl) → TokensOf text tokens → given ≡ tokens → Spells 80 (seen_decls decls) (words text given) → taken ≡ decls → Typed false (seen_decls decls) → IsProgram text (seen_decls taken)
 program_is text tokens given decls taken t g s e typed =
     subst (λ (z : List Decl). IsProgram text (seen_decls z)) (sym e) (record { tokens = tokens; tokens_are = t; spelled = subst (λ (z : List Token). Spells 80 (seen_decls decls) (words text z)) g s; typed = typed })
-
-pub check-requires : goal.check-requires
-check-requires c = let e = ap length c.as_slice.ensures in omega (arith, c.in-Ok-parse.ensures.few, c.in-Ok.ensures.few, c.requires, e)
 
 pub returns-in-Ok-check : goal.returns-in-Ok-check
 returns-in-Ok-check c =

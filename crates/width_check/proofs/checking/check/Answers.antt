@@ -18,12 +18,12 @@ fine allow given taken e h = ap (λ ds. first_of (broken_rule allow) 0 [] (seen_
 
 pub invariant_of-result : goal.invariant_of-result
 invariant_of-result c = record {
-  rules = sound_of c.args.allow_reserved 0 [] (seen_decls c.args.program.decls) (fine c.args.allow_reserved _ _ c.as_slice.ensures c.in-Ok.ensures.fine);
-  begun = ap (λ ds. list_all is_begun (seen_decls ds)) (sym c.as_slice.ensures) ∙ c.in-Ok.ensures.begun;
+  rules = sound_of c.args.allow_reserved 0 [] (seen_decls c.args.program.decls) (fine c.args.allow_reserved _ _ c.as_slice-decls.ensures c.in-Ok.ensures.fine);
+  begun = ap (λ ds. list_all is_begun (seen_decls ds)) (sym c.as_slice-decls.ensures) ∙ c.in-Ok.ensures.begun;
 }
 
 pub returns-in-Ok-clause-typed : goal.returns-in-Ok-clause-typed
-returns-in-Ok-clause-typed c = walk_passes c.args.allow_reserved (seen_decls c.args.program.decls) (fine c.args.allow_reserved _ _ c.as_slice.ensures c.in-Ok.ensures.fine)
+returns-in-Ok-clause-typed c = walk_passes c.args.allow_reserved (seen_decls c.args.program.decls) (fine c.args.allow_reserved _ _ c.as_slice-decls.ensures c.in-Ok.ensures.fine)
 
 names : (allow : Bool) (ds : List PlainDecl) (e : CheckError) → IsFirst allow ds e → IsBroken allow ds e
 names allow ds (error.Broken broken) h = walk_names allow ds broken.rule broken.decl h
@@ -31,4 +31,4 @@ names allow ds error.NotYet h = h
 names allow ds error.Memory h = h
 
 pub returns-in-Err-clause-broken : goal.returns-in-Err-clause-broken
-returns-in-Err-clause-broken c = names c.args.allow_reserved (seen_decls c.args.program.decls) c.in-Err.error (subst (λ (ds : List Decl). IsFirst c.args.allow_reserved (seen_decls ds) c.in-Err.error) c.as_slice.ensures c.in-Err.ensures.refused)
+returns-in-Err-clause-broken c = names c.args.allow_reserved (seen_decls c.args.program.decls) c.in-Err.error (subst (λ (ds : List Decl). IsFirst c.args.allow_reserved (seen_decls ds) c.in-Err.error) c.as_slice-decls.ensures c.in-Err.ensures.refused)
