@@ -1,18 +1,23 @@
 -- How the tokens of a text follow from its spaces, comments and tokens one behind another.
-use Rattle.std.proofs.Common.{◌≡◌, ◌∙◌, ◌<◌, ◌≤◌, ◌++◌, ◌∷◌, [], ℕ, List, length, sym, subst, ap, refl, arith, inl, inr, append_assoc, append-nil}
+use Rattle.std.proofs.Common.{◌≡◌, ◌<◌, ◌≤◌, ◌++◌, ◌∷◌, [], ℕ, List, length, sym, subst, refl, arith, inl, inr}
 use Rattle.std.specs.Prelude.{All}
 use Rattle.std.proofs.lemmas.List.Elements.{All-nil, All-cons}
 use Rattle.p4_lexer.specs.declared.token.Token.{Token}
 use Rattle.p4_lexer.specs.Gaps.{IsSpacing, SpacingBy, IsGap}
-use Rattle.p4_lexer.specs.Tokens.{IsLongest, IsTokenAt, IsWithin, TokensFrom, TokensOf}
+use Rattle.p4_lexer.specs.Tokens.{IsTokenAt, IsWithin, TokensBetween, TokensOf}
 
 gap_none : (text : List ℕ) (at : ℕ) → IsGap text at at
 unfolding SpacingBy
 gap_none text at = record { ends = []; spacing = refl }
 
-gap_more : (text : List ℕ) (at end to : ℕ) → IsSpacing text at end → IsGap text end to → IsGap text at to
+spacing_push : (text : List ℕ) (from : ℕ) (ends : List ℕ) (at end : ℕ) → SpacingBy text from ends at → IsSpacing text at end
+    → SpacingBy text from (ends ++ end ∷ []) end
 unfolding SpacingBy
-gap_more text at end to first gap = record { ends = end ∷ gap.ends; spacing = (first, gap.spacing) }
+spacing_push text from [] at end here last = (let P : ℕ → Type 0 = λ place. IsSpacing text place end in subst P (sym here) last, refl)
+spacing_push text from (first ∷ ends) at end spacing last = (spacing.0, spacing_push text first ends at end spacing.1 last)
+
+gap_push : (text : List ℕ) (from at end : ℕ) → IsGap text from at → IsSpacing text at end → IsGap text from end
+gap_push text from at end gap last = record { ends = gap.ends ++ end ∷ []; spacing = spacing_push text from gap.ends at end gap.spacing last }
 
 pub spacing_after : (text : List ℕ) (at end : ℕ) → IsSpacing text at end → at < end
 spacing_after text at end (inl space) = let e = space.end_is in omega arith
@@ -24,53 +29,40 @@ spacing_within text at end (inl space) = let e = space.end_is in let w = space.w
 spacing_within text at end (inr (inl line)) = line.within
 spacing_within text at end (inr (inr block)) = block.within
 
--- at the end of the text stand no more tokens
-pub none_at_end : (text : List ℕ) (at : ℕ) → at ≡ length text → TokensFrom text at []
-unfolding TokensFrom
-none_at_end text at end = let P : ℕ → Type 0 = λ to. IsGap text at to in subst P end (gap_none text at)
+-- before the first byte of a text stand no tokens
+pub none_at_start : (text : List ℕ) → TokensBetween text 0 [] 0
+unfolding TokensBetween
+none_at_start text = gap_none text 0
 
--- a space or a comment may stand before tokens
-pub before_spacing : (text : List ℕ) (at end : ℕ) (after : List Token) → IsSpacing text at end → TokensFrom text end after → TokensFrom text at after
-unfolding TokensFrom
-before_spacing text at end [] first rest = gap_more text at end (length text) first rest
-before_spacing text at end (token ∷ tokens) first rest = (gap_more text at end token.at first rest.0, rest.1, rest.2)
+-- a space or a comment may stand behind tokens
+pub behind_spacing : (text : List ℕ) (from : ℕ) (tokens : List Token) (at end : ℕ) → TokensBetween text from tokens at → IsSpacing text at end
+    → TokensBetween text from tokens end
+unfolding TokensBetween
+behind_spacing text from [] at end before last = gap_push text from at end before last
+behind_spacing text from (token ∷ tokens) at end before last = (before.0, before.1, behind_spacing text token.end tokens at end before.2 last)
 
 -- and so may the token there
-pub before_token : (text : List ℕ) (at : ℕ) (token : Token) (after : List Token) → IsTokenAt text at token → TokensFrom text token.end after
-    → TokensFrom text at (token ∷ after)
-unfolding TokensFrom
-before_token text at token after here rest =
-    let P : ℕ → Type 0 = λ from. IsGap text from token.at in
-    (subst P here.at_is (gap_none text token.at), here.longest, rest)
+pub behind_token : (text : List ℕ) (from : ℕ) (tokens : List Token) (at : ℕ) (token : Token) → TokensBetween text from tokens at
+    → IsTokenAt text at token → TokensBetween text from (tokens ++ token ∷ []) token.end
+unfolding TokensBetween
+behind_token text from [] at token before here =
+    (let P : ℕ → Type 0 = λ place. IsGap text from place in subst P (sym here.at_is) before, here.longest, gap_none text token.end)
+behind_token text from (first ∷ tokens) at token before here = (before.0, before.1, behind_token text first.end tokens at token before.2 here)
 
 -- each token of a text isn't empty and lies within the text
-pub tokens_within : (text : List ℕ) (from : ℕ) (tokens : List Token) → TokensFrom text from tokens → All (IsWithin (length text)) tokens
-unfolding TokensFrom
-tokens_within text from [] rest = All-nil (IsWithin (length text))
-tokens_within text from (token ∷ tokens) rest =
-    All-cons (IsWithin (length text)) token tokens (record { some = rest.1.some; within = rest.1.within }) (tokens_within text token.end tokens rest.2)
-
--- each token of a text is the longest piece at its place
-pub tokens_are_longest : (text : List ℕ) (from : ℕ) (tokens : List Token) → TokensFrom text from tokens
-    → All (λ token. IsLongest text token.at token.end token.kind) tokens
-unfolding TokensFrom
-tokens_are_longest text from [] rest = All-nil (λ token. IsLongest text token.at token.end token.kind)
-tokens_are_longest text from (token ∷ tokens) rest =
-    All-cons (λ each. IsLongest text each.at each.end each.kind) token tokens rest.1 (tokens_are_longest text token.end tokens rest.2)
+pub tokens_within : (text : List ℕ) (from : ℕ) (tokens : List Token) (to : ℕ) → TokensBetween text from tokens to → All (IsWithin (length text)) tokens
+unfolding TokensBetween
+tokens_within text from [] to rest = All-nil (IsWithin (length text))
+tokens_within text from (token ∷ tokens) to rest =
+    All-cons (IsWithin (length text)) token tokens (record { some = rest.1.some; within = rest.1.within }) (tokens_within text token.end tokens to rest.2)
 
 -- the step of the walk over a text at a token
-pub token_added : (text : List ℕ) (at : ℕ) (tokens more : List Token) (token : Token)
-    → ((after : List Token) → TokensFrom text at after → TokensFrom text 0 (tokens ++ after))
-    → IsTokenAt text at token → more ≡ tokens ++ token ∷ []
-    → (after : List Token) → TokensFrom text token.end after → TokensFrom text 0 (more ++ after)
-token_added text at tokens more token before here more_is after rest =
-    let P : List Token → Type 0 = λ list. TokensFrom text 0 list in
-    let all : tokens ++ token ∷ after ≡ more ++ after = sym (append_assoc tokens (token ∷ []) after) ∙ ap (λ list. list ++ after) (sym more_is) in
-    subst P all (before (token ∷ after) (before_token text at token after here rest))
+pub token_added : (text : List ℕ) (at : ℕ) (tokens more : List Token) (token : Token) → TokensBetween text 0 tokens at
+    → IsTokenAt text at token → more ≡ tokens ++ token ∷ [] → TokensBetween text 0 more token.end
+token_added text at tokens more token before here more_is =
+    let P : List Token → Type 0 = λ list. TokensBetween text 0 list token.end in
+    subst P (sym more_is) (behind_token text 0 tokens at token before here)
 
 -- the walk at its end
-pub all_tokens : (text : List ℕ) (at : ℕ) (tokens : List Token)
-    → ((after : List Token) → TokensFrom text at after → TokensFrom text 0 (tokens ++ after)) → at ≡ length text → TokensOf text tokens
-all_tokens text at tokens before end =
-    let P : List Token → Type 0 = λ list. TokensFrom text 0 list in
-    subst P (append-nil tokens) (before [] (none_at_end text at end))
+pub all_tokens : (text : List ℕ) (at : ℕ) (tokens : List Token) → TokensBetween text 0 tokens at → at ≡ length text → TokensOf text tokens
+all_tokens text at tokens before end = let P : ℕ → Type 0 = λ to. TokensBetween text 0 tokens to in subst P end before

@@ -1,4 +1,13 @@
 pub mod PlainDigits
+pub mod NumberBytes
+pub mod DigitFronts
+pub mod OneNumber
 pub mod TableAnswers
-pub mod PieceLemmas
+pub mod PieceBytes
+pub mod WordTokens
+pub mod IncludeTokens
+pub mod Spacings
 pub mod LexLemmas
+pub mod OnePlace
+pub mod OneToken
+pub mod OneReading

@@ -1,9 +1,9 @@
 -- What the look-ups in the tables of reserved words and signs say of these words.
 use Rattle.std.proofs.Common.{◌≡◌, ◌<◌, ◌≤◌, ◌+◌, ◌-◌, ℕ, List, Option, Some, None, length, drop, take, sym, subst, arith, length-drop}
-use Rattle.std.specs.Prelude.{MatchOption, IfSome}
+use Rattle.std.specs.Prelude.{MatchOption, slice_range}
 use Rattle.case_table.specs.declared.rows.Case.{Case}
 use Rattle.case_table.specs.Rows.{IsWordAt, ListsWords, IsMunched, code_of}
-use Rattle.case_table.proofs.Found.{code_of_some, code_of_none, word_of_row, row_of_word, longest_has_row, longest_some, longest_within, longest_bounds}
+use Rattle.case_table.proofs.Found.{code_of_some, code_of_none, word_of_row, row_of_word, longest_has_row, longest_some, longest_within, longest_bounds, none_stands}
 use Rattle.p4_lexer.specs.Pieces.{reserved_words, signs}
 use Rattle.p4_lexer.specs.Tokens.{IsLongestSign}
 
@@ -13,9 +13,13 @@ reserved_answer table word None is lists = λ code at. code_of_none table word c
 reserved_answer table word (Some code) is lists = word_of_row table reserved_words word code lists (code_of_some table word code (sym is))
 
 pub sign_answer : (table : List Case) (text : List ℕ) (at : ℕ) (found : Option (ℕ × ℕ)) → at < length text → ListsWords table signs
-    → IsMunched table (drop at text) found → IfSome found (λ sign. IsLongestSign text at sign.0 sign.1)
+    → IsMunched table (drop at text) found
+    → MatchOption found ((code end : ℕ) → at < end → end ≤ length text → IsWordAt signs code (slice_range text at end) → ⊥)
+    (λ sign. IsLongestSign text at sign.0 sign.1)
 unfolding IsMunched
-sign_answer table text at None within lists munched = tt
+sign_answer table text at None within lists munched = λ code end after most word.
+    none_stands table (drop at text) munched (end - at) code (omega arith) (omega (arith, length-drop at text))
+    (row_of_word table signs (take (end - at) (drop at text)) code lists word)
 sign_answer table text at (Some sign) within lists munched =
     let code : ℕ = sign.0 in
     let len : ℕ = sign.1 in

@@ -53,3 +53,7 @@ pub record IsWidened (width value : ℕ) (bytes : List ℕ) : Type 0 where
 abbrev pub IsNumber : Option ℕ → ℕ → List ℕ → Type 0
 IsNumber None value bytes = IsNatural value bytes
 IsNumber (Some width) value bytes = IsWidened width value bytes
+
+-- the bytes spell no number
+abbrev pub IsNoNumber : List ℕ → Type 0
+IsNoNumber bytes = (width : Option ℕ) (value : ℕ) → IsNumber width value bytes → ⊥

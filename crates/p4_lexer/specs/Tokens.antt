@@ -15,15 +15,15 @@ pub record IsLongest (text : List ℕ) (at end : ℕ) (kind : Kind) : Type 0 whe
   pub longest : (other : Kind) (n : ℕ) → at < n → n ≤ length text → IsPiece other (slice_range text at n) → n ≤ end
   pub alone : IsNumberKind kind → end < length text → is_word_byte (slice_index text end) ≡ false
 
--- from `from` on, the text is these tokens, with nothing but spaces and comments before, between and behind them
-unfoldable pub TokensFrom : List ℕ → ℕ → List Token → Type 0
-TokensFrom text from [] = IsGap text from (length text)
-TokensFrom text from (token ∷ tokens) =
-    IsGap text from token.at × IsLongest text token.at token.end token.kind × TokensFrom text token.end tokens
+-- from `from` to `to`, the text is these tokens, with nothing but spaces and comments before, between and behind them
+unfoldable pub TokensBetween : List ℕ → ℕ → List Token → ℕ → Type 0
+TokensBetween text from [] to = IsGap text from to
+TokensBetween text from (token ∷ tokens) to =
+    IsGap text from token.at × IsLongest text token.at token.end token.kind × TokensBetween text token.end tokens to
 
 -- the text is these tokens, with nothing but spaces and comments before, between and behind them
 abbrev pub TokensOf : List ℕ → List Token → Type 0
-TokensOf text tokens = TokensFrom text 0 tokens
+TokensOf text tokens = TokensBetween text 0 tokens (length text)
 
 -- the token begins at `at` and is the longest piece there
 pub record IsTokenAt (text : List ℕ) (at : ℕ) (token : Token) : Type 0 where

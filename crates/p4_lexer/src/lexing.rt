@@ -1,7 +1,8 @@
-ghost use Rattle.std.specs.Prelude.{◌≡◌, ◌≤◌, [], ◌∷◌, ◌++◌, length, All, IfOk, OnOk};
+ghost use Rattle.std.specs.Prelude.{◌≡◌, ℕ, ◌^◌, ◌≤◌, [], ◌∷◌, ◌++◌, List, length, All, IfOk, IfErr, OnOk};
+ghost use Rattle.p4_lexer.specs.BadPlaces.{IsBadPlace, IsBad};
 ghost use Rattle.p4_lexer.specs.Tokens.{TokensOf, IsWithin};
 
-use crate::spacing::spacing_end;
+use crate::spacing::{is_opening, spacing_end};
 use crate::token::{LexError, Token};
 use crate::words::token_at;
 use elx_bits::Items;
@@ -13,28 +14,55 @@ pub fn lex(alloc: Global, text: &[u8]) -> Result<Items<Token>, LexError>
     ensures tokens { IfOk result (λ tokens. TokensOf text.now tokens) }
     ensures within { IfOk result (λ tokens. All (IsWithin (length text.now)) tokens) }
     ensures few { IfOk result (λ tokens. length tokens ≤ length text.now) }
+    ensures refused { IfErr result (IsBad text.now) }
 {
     let mut tokens = Items::new(alloc);
     let mut at = 0;
     while at < text.len() {
-        if let Some(end) = spacing_end(text, at)? {
+        if let Some(end) = spacing_end(text, at) {
             at = end;
-        } else {
-            let token = token_at(text, at)?;
+        } else if let Some(token) = token_at(text, at) {
             at = token.end as usize;
             add(&mut tokens, token)?;
+        } else {
+            return Err(bad_at(text, at));
         }
     }
     Ok(tokens)
 }
 
+/// A text is one list of tokens at most; a text with a bad place is none, and it has no second bad place. It holds of
+/// the definitions, and takes no step.
+pub fn one_list_of_tokens()
+    ensures same { (text : List ℕ) (tokens other : List Token) → TokensOf text tokens → TokensOf text other → tokens ≡ other }
+    ensures none { (text : List ℕ) (at : ℕ) → IsBadPlace text at → (tokens : List Token) → TokensOf text tokens → ⊥ }
+    ensures one_place { (text : List ℕ) (at other : ℕ) → IsBadPlace text at → IsBadPlace text other → at ≡ other }
+{}
+
 fn add(tokens: &mut Items<Token>, token: Token) -> Result<(), LexError>
-    ensures { OnOk result (tokens.new ≡ tokens.old ++ token ∷ []) }
+    ensures added { OnOk result (tokens.new ≡ tokens.old ++ token ∷ []) }
+    ensures refused { IfErr result (λ error. error ≡ LexError.Memory) }
 {
     if tokens.push(token).is_err() {
         Err(LexError::Memory)
     } else {
         Ok(())
+    }
+}
+
+/// The error that names a bad place, and says what stands there.
+fn bad_at(text: &[u8], at: usize) -> LexError
+    requires short { length text.now ≤ 2 ^ 24 }
+    requires bad { IsBadPlace text.now at }
+    ensures { IsBad text.now result }
+{
+    let place = at as u32;
+    if text[at].is_ascii_digit() {
+        LexError::BadNumber { at: place }
+    } else if is_opening(text, at) {
+        LexError::OpenComment { at: place }
+    } else {
+        LexError::BadByte { at: place }
     }
 }
 

@@ -8,6 +8,6 @@ mod tables;
 mod token;
 mod words;
 
-pub use lexing::lex;
+pub use lexing::{lex, one_list_of_tokens};
 pub use tables::{OPERATORS, RESERVED, SIGNS};
 pub use token::{Kind, LexError, Token};

@@ -1,15 +1,15 @@
-ghost use Rattle.std.specs.Prelude.{◌≡◌, ◌+◌, ◌*◌, ◌^◌, ◌<◌, ◌≤◌, IfSome};
+ghost use Rattle.std.specs.Prelude.{◌≡◌, ℕ, ◌+◌, ◌*◌, ◌^◌, ◌<◌, ◌≤◌, ◌==◌, IfSome, IfNone, MatchOption, position};
 ghost use Rattle.std.specs.Char.{digit_value};
-ghost use Rattle.p4_lexer.specs.Numbers.{IsNumber, IsNatural, IsInBase, IsWidth, base_of};
+ghost use Rattle.p4_lexer.specs.Numbers.{IsNumber, IsNoNumber, IsNatural, IsInBase, IsWidth, base_of};
 
 /// The most bits that a width may say.
 const WIDEST: u32 = 128;
 
 /// The width and the value of a number, or None where the text is none or passes a limit.
 pub fn number(text: &[u8]) -> Option<(Option<u8>, u128)>
-    ensures { IfSome result (λ found. IsNumber found.0 found.1 text.now) }
+    ensures { MatchOption result (IsNoNumber text.now) (λ found. IsNumber found.0 found.1 text.now) }
 {
-    match text.iter().position(|byte| *byte == b'w') {
+    match width_end(text) {
         Some(place) => {
             let width = width_of(&text[..place])?;
             let value = natural(&text[place + 1..])?;
@@ -22,9 +22,16 @@ pub fn number(text: &[u8]) -> Option<(Option<u8>, u128)>
     }
 }
 
-/// The width that stands before a `w`: decimal digits for 1 to 128.
+/// The place of the first `w`.
+fn width_end(text: &[u8]) -> Option<usize>
+    ensures { result ≡ position (λ byte. byte == 119) text.now }
+{
+    text.iter().position(|byte| *byte == b'w')
+}
+
+/// The width that stands before a `w`, decimal digits for 1 to 128, or None where something else stands there.
 fn width_of(digits: &[u8]) -> Option<u8>
-    ensures { IfSome result (λ width. IsWidth width digits.now) }
+    ensures { MatchOption result ((width : ℕ) → IsWidth width digits.now → ⊥) (λ width. IsWidth width digits.now) }
 {
     let mut width: u32 = 0;
     for byte in digits {
@@ -37,9 +44,9 @@ fn width_of(digits: &[u8]) -> Option<u8>
     if width > 0 { Some(width as u8) } else { None }
 }
 
-/// The value of a number without its width.
+/// The value of a number without its width, or None where the text is none or the value passes the limit.
 fn natural(text: &[u8]) -> Option<u128>
-    ensures { IfSome result (λ value. IsNatural value text.now) }
+    ensures { MatchOption result ((value : ℕ) → IsNatural value text.now → ⊥) (λ value. IsNatural value text.now) }
 {
     if text.len() >= 2 && text[0] == b'0' {
         if let Some(base) = base_of(text[1]) {
@@ -61,11 +68,12 @@ fn base_of(letter: u8) -> Option<u32>
     }
 }
 
-/// The value of digits of a base, among which `_` may stand after the first.
+/// The value of digits of a base, among which `_` may stand after the first, or None where the text is no such digits
+/// or the value passes the limit.
 fn value_in(base: u32, digits: &[u8]) -> Option<u128>
     requires low { 2 ≤ base }
     requires high { base ≤ 16 }
-    ensures { IfSome result (λ value. IsInBase base value digits.now) }
+    ensures { MatchOption result ((value : ℕ) → value < 2 ^ 128 → IsInBase base value digits.now → ⊥) (λ value. IsInBase base value digits.now) }
 {
     if digits.is_empty() || digits[0] == b'_' {
         return None;
@@ -79,24 +87,26 @@ fn value_in(base: u32, digits: &[u8]) -> Option<u128>
     Some(value)
 }
 
-/// The value with one more digit behind it.
+/// The value with one more digit behind it, or None where it is no digit or the value passes the limit.
 fn with_digit(base: u32, value: u128, byte: u8) -> Option<u128>
     requires low { 2 ≤ base }
     requires high { base ≤ 16 }
     ensures digit { IfSome result (λ more. digit_value byte < base) }
     ensures value { IfSome result (λ more. more ≡ value * base + digit_value byte) }
+    ensures none { IfNone result (digit_value byte < base → 2 ^ 128 ≤ value * base + digit_value byte) }
 {
     let digit = digit_of(base, byte)?;
     let shifted = value.checked_mul(u128::from(base))?;
     shifted.checked_add(u128::from(digit))
 }
 
-/// The value of a digit of the base: of a decimal digit, or of a letter in either case.
+/// The value of a digit of the base: of a decimal digit, or of a letter in either case. None where it is no digit.
 fn digit_of(base: u32, byte: u8) -> Option<u32>
     requires low { 2 ≤ base }
     requires high { base ≤ 16 }
     ensures low { IfSome result (λ digit. digit_value byte < base) }
     ensures value { IfSome result (λ digit. digit ≡ digit_value byte) }
+    ensures none { IfNone result (base ≤ digit_value byte) }
 {
     char::from(byte).to_digit(base)
 }

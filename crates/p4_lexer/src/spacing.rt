@@ -1,32 +1,31 @@
-ghost use Rattle.std.specs.Prelude.{◌≡◌, ◌≢◌, ℕ, ◌+◌, ◌^◌, ◌<◌, ◌≤◌, ◌↔◌, length, slice_index, IsTrue, IfOk, IfSome};
+ghost use Rattle.std.specs.Prelude.{◌≡◌, ◌≢◌, ℕ, ◌+◌, ◌^◌, ◌<◌, ◌≤◌, ◌↔◌, length, slice_index, IsTrue, IfSome, IfNone, MatchOption};
 ghost use Rattle.p4_lexer.specs.Gaps.{is_space, IsClose, IsBlockComment, IsSpacing};
-
-use crate::token::LexError;
+ghost use Rattle.p4_lexer.specs.BadPlaces.{HasNoSpacing, IsOpening};
 
 /// The end of the space or the comment that begins at `at`, or None where neither begins there.
-pub fn spacing_end(text: &[u8], at: usize) -> Result<Option<usize>, LexError>
-    requires short { length text.now ≤ 2 ^ 24 }
-    requires within { at < length text.now }
-    ensures { IfOk result (λ found. IfSome found (λ end. IsSpacing text.now at end)) }
+pub fn spacing_end(text: &[u8], at: usize) -> Option<usize>
+    requires { at < length text.now }
+    ensures { MatchOption result (HasNoSpacing text.now at) (IsSpacing text.now at) }
 {
     if is_space(text[at]) {
-        return Ok(Some(at + 1));
+        return Some(at + 1);
     }
     if text[at] != b'/' || at + 1 == text.len() {
-        return Ok(None);
+        return None;
     }
     match text[at + 1] {
-        b'/' => Ok(Some(line_end(text, at + 2))),
-        b'*' => {
-            let end = block_end(text, at + 2);
-            if end.is_some() {
-                Ok(end)
-            } else {
-                Err(LexError::OpenComment { at: at as u32 })
-            }
-        }
-        _ => Ok(None),
+        b'/' => Some(line_end(text, at + 2)),
+        b'*' => block_end(text, at + 2),
+        _ => None,
     }
+}
+
+/// Whether `/*` stands at `at`.
+pub fn is_opening(text: &[u8], at: usize) -> bool
+    requires { at < length text.now }
+    ensures { IsTrue result ↔ IsOpening text.now at }
+{
+    at + 1 < text.len() && text[at] == b'/' && text[at + 1] == b'*'
 }
 
 /// Whether a byte separates tokens: a space, a tab, a carriage return or a line feed.
@@ -52,13 +51,14 @@ fn line_end(text: &[u8], from: usize) -> usize
     text.len()
 }
 
-/// The place after the first `*/` from `from` on.
+/// The place after the first `*/` from `from` on, or None where none stands there.
 fn block_end(text: &[u8], from: usize) -> Option<usize>
     requires { from ≤ length text.now }
     ensures after { IfSome result (λ end. from + 2 ≤ end) }
     ensures within { IfSome result (λ end. end ≤ length text.now) }
     ensures before { IfSome result (λ end. (k : ℕ) → from ≤ k → k + 2 < end → IsClose text.now k → ⊥) }
     ensures found { IfSome result (λ end. (k : ℕ) → k + 2 ≡ end → IsClose text.now k) }
+    ensures none { IfNone result ((k : ℕ) → from ≤ k → k < length text.now → IsClose text.now k → ⊥) }
 {
     for i in from..text.len() {
         if is_close(text, i) {

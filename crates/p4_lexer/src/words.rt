@@ -1,19 +1,22 @@
-ghost use Rattle.std.specs.Prelude.{◌≡◌, ◌≢◌, ℕ, ◌+◌, ◌^◌, ◌<◌, ◌≤◌, ◌↔◌, codes, IsTrue, true, false, length, slice_index, take, IfOk, IfSome, MatchOption};
+ghost use Rattle.std.specs.Prelude.{◌≡◌, ◌≢◌, ℕ, ◌+◌, ◌^◌, ◌<◌, ◌≤◌, ◌↔◌, codes, IsTrue, true, false, length, slice_index, slice_range, take, IfSome, MatchOption};
+ghost use Rattle.std.specs.Char.{is_ascii_digit};
 ghost use Rattle.std.specs.List.{AllPass};
 ghost use Rattle.case_table.specs.Rows.{IsWordAt};
-ghost use Rattle.p4_lexer.specs.Pieces.{is_word_byte, is_blank, reserved_words, IsFile, IsPiece};
+ghost use Rattle.p4_lexer.specs.BadPlaces.{HasNoToken};
+ghost use Rattle.p4_lexer.specs.Numbers.{IsNoNumber};
+ghost use Rattle.p4_lexer.specs.Pieces.{is_word_byte, is_blank, reserved_words, signs, IsFile, IsPiece};
 ghost use Rattle.p4_lexer.specs.Tokens.{IsTokenAt, IsLongestSign};
 
 use crate::numbers::number;
 use crate::tables::{RESERVED, SIGNS};
-use crate::token::{Kind, LexError, Token};
+use crate::token::{Kind, Token};
 use case_table::{find, munch};
 
-/// The token that begins at `at`: the longest piece of the text there.
-pub fn token_at(text: &[u8], at: usize) -> Result<Token, LexError>
+/// The token that begins at `at`, the longest piece of the text there, or None where none begins there.
+pub fn token_at(text: &[u8], at: usize) -> Option<Token>
     requires short { length text.now ≤ 2 ^ 24 }
     requires within { at < length text.now }
-    ensures { IfOk result (IsTokenAt text.now at) }
+    ensures { MatchOption result (HasNoToken text.now at) (IsTokenAt text.now at) }
 {
     if text[at] == b'#' {
         include_at(text, at)
@@ -25,17 +28,15 @@ pub fn token_at(text: &[u8], at: usize) -> Result<Token, LexError>
 }
 
 /// The number, the reserved word or the name at `at`, where a letter, a digit or `_` stands.
-fn word_at(text: &[u8], at: usize) -> Result<Token, LexError>
+fn word_at(text: &[u8], at: usize) -> Option<Token>
     requires short { length text.now ≤ 2 ^ 24 }
     requires within { at < length text.now }
     requires word { is_word_byte (slice_index text.now at) ≡ true }
-    ensures { IfOk result (IsTokenAt text.now at) }
+    ensures { MatchOption result (HasNoToken text.now at) (IsTokenAt text.now at) }
 {
     let end = word_end(text, at);
-    let Some(kind) = word_kind(&text[at..end]) else {
-        return Err(LexError::BadNumber { at: at as u32 });
-    };
-    Ok(Token {
+    let kind = word_kind(&text[at..end])?;
+    Some(Token {
         kind,
         at: at as u32,
         end: end as u32,
@@ -46,7 +47,7 @@ fn word_at(text: &[u8], at: usize) -> Result<Token, LexError>
 fn word_kind(word: &[u8]) -> Option<Kind>
     requires some { 0 < length word.now }
     requires bytes { AllPass is_word_byte word.now }
-    ensures { IfSome result (λ kind. IsPiece kind word.now) }
+    ensures { MatchOption result ((is_ascii_digit (slice_index word.now 0) ≡ true) × IsNoNumber word.now) (λ kind. IsPiece kind word.now) }
 {
     if word[0].is_ascii_digit() {
         let (width, value) = number(word)?;
@@ -66,51 +67,46 @@ fn reserved_code(word: &[u8]) -> Option<u16>
     find(&RESERVED, word)
 }
 
-/// The code and the length of the longest sign at `at`.
+/// The code and the length of the longest sign at `at`, or None where no sign stands there.
 fn longest_sign(text: &[u8], at: usize) -> Option<(u16, usize)>
     requires { at < length text.now }
-    ensures { IfSome result (λ found. IsLongestSign text.now at found.0 found.1) }
+    ensures { MatchOption result ((code end : ℕ) → at < end → end ≤ length text.now → IsWordAt signs code (slice_range text.now at end) → ⊥) (λ found. IsLongestSign text.now at found.0 found.1) }
 {
     munch(&SIGNS, text, at)
 }
 
 /// The sign at `at`, where no letter, digit, `_` or `#` stands.
-fn sign_at(text: &[u8], at: usize) -> Result<Token, LexError>
+fn sign_at(text: &[u8], at: usize) -> Option<Token>
     requires short { length text.now ≤ 2 ^ 24 }
     requires within { at < length text.now }
     requires not_word { is_word_byte (slice_index text.now at) ≡ false }
     requires not_include { slice_index text.now at ≢ 35 }
-    ensures { IfOk result (IsTokenAt text.now at) }
+    ensures { MatchOption result (HasNoToken text.now at) (IsTokenAt text.now at) }
 {
-    match longest_sign(text, at) {
-        Some((code, len)) => Ok(Token {
-            kind: Kind::Sign(code),
-            at: at as u32,
-            end: (at + len) as u32,
-        }),
-        None => Err(LexError::BadByte { at: at as u32 }),
-    }
+    let (code, len) = longest_sign(text, at)?;
+    Some(Token {
+        kind: Kind::Sign(code),
+        at: at as u32,
+        end: (at + len) as u32,
+    })
 }
 
 /// The include at `at`, where a `#` stands.
-fn include_at(text: &[u8], at: usize) -> Result<Token, LexError>
+fn include_at(text: &[u8], at: usize) -> Option<Token>
     requires short { length text.now ≤ 2 ^ 24 }
     requires within { at < length text.now }
     requires include { slice_index text.now at ≡ 35 }
-    ensures { IfOk result (IsTokenAt text.now at) }
+    ensures { MatchOption result (HasNoToken text.now at) (IsTokenAt text.now at) }
 {
-    let bad = LexError::BadByte { at: at as u32 };
     if !is_include(&text[at..]) {
-        return Err(bad);
+        return None;
     }
     let file = blanks_end(text, at + 8);
     if file == at + 8 {
-        return Err(bad);
+        return None;
     }
-    let Some(code) = file_code(&text[file..]) else {
-        return Err(bad);
-    };
-    Ok(Token {
+    let code = file_code(&text[file..])?;
+    Some(Token {
         kind: Kind::Include(code),
         at: at as u32,
         end: (file + 9) as u32,
@@ -125,10 +121,10 @@ fn is_include(text: &[u8]) -> bool
     text.starts_with(b"#include")
 }
 
-/// The number of the file whose name in angle brackets a text begins with.
+/// The number of the file whose name in angle brackets a text begins with, or None where it begins with no such name.
 fn file_code(text: &[u8]) -> Option<u8>
     ensures within { IfSome result (λ code. 9 ≤ length text.now) }
-    ensures file { IfSome result (λ code. IsFile code (take 9 text.now)) }
+    ensures file { MatchOption result ((code : ℕ) → IsFile code (take 9 text.now) → ⊥) (λ code. IsFile code (take 9 text.now)) }
 {
     if text.starts_with(b"<core.p4>") {
         Some(0)
@@ -161,6 +157,7 @@ fn blanks_end(text: &[u8], from: usize) -> usize
     ensures after { from ≤ result }
     ensures within { result ≤ length text.now }
     ensures before { (k : ℕ) → from ≤ k → k < result → is_blank (slice_index text.now k) ≡ true }
+    ensures stop { result < length text.now → is_blank (slice_index text.now result) ≡ false }
 {
     for i in from..text.len() {
         if text[i] != b' ' && text[i] != b'\t' {
