@@ -1,18 +1,15 @@
 -- What a checked program keeps of its terms, and how its rows and its utility are built step by step.
-use Rattle.std.proofs.Common.{◌≡◌, ℕ, zero, suc, ◌+◌, ◌<◌, ◌≤◌, ◌&&◌, Bool, true, false, List, [], ◌∷◌, ◌++◌, flat_map, length, take, drop, get_or, Option, Some, None, refl, sym, ap, subst, ◌∙◌, true≢false, arith, add-one, append_assoc, ℤ, pos, ◌+ℤ◌, neg_ℤ}
-use Rattle.std.specs.Prelude.{◌↔◌, nat_le, All, option_map, unwrap_or, if◌then◌else◌}
+use Rattle.std.proofs.Common.{◌≡◌, ℕ, zero, suc, ◌+◌, ◌<◌, ◌≤◌, ◌&&◌, Bool, true, false, List, [], ◌∷◌, ◌++◌, flat_map, length, take, drop, get_or, Option, Some, None, refl, sym, ap, subst, ◌∙◌, true≢false, arith, add-one, append_assoc, ℤ, ◌+ℤ◌}
+use Rattle.std.specs.Prelude.{◌↔◌, nat_le, option_map, unwrap_or, if◌then◌else◌}
 use Rattle.std.specs.List.{list_all}
 use Rattle.std.proofs.lemmas.Int.{ints}
 use Rattle.std.proofs.lemmas.Bool.Decides.{nat_tests}
-use Rattle.std.proofs.lemmas.List.{take_all}
-use Rattle.std.proofs.lemmas.List.Elements.{All-nil, All-cons, All-head, All-append}
+use Rattle.std.proofs.lemmas.List.{take_all, append-nil}
 use Rattle.std.proofs.lemmas.List.Folds.{list_all-append}
 use Rattle.std.proofs.lemmas.Grind.{flat_map-append}
 use Rattle.elastic_ast.specs.declared.declarations.Comp.{Comp}
 use Rattle.elastic_ast.specs.declared.declarations.Decl.{Decl}
 use Rattle.elastic_ast.specs.declared.declarations.LinTerm.{LinTerm}
-use Rattle.elastic_ast.specs.declared.declarations.Rel.{Rel}
-use Rattle.elastic_ast.specs.declared.declarations.Rel.TheVariants as rel
 use Rattle.elastic_ast.specs.declared.declarations.UtilTerm.{UtilTerm}
 use Rattle.elastic_ast.specs.declared.declarations.UtilTerm.TheVariants as util
 use Rattle.elastic_ast.specs.declared.flat.Linear.{Linear}
@@ -23,7 +20,7 @@ use Rattle.elastic_ast.specs.Scope.{or_else, found}
 use Rattle.elastic_ast.specs.Demand.{first_broken}
 use Rattle.elastic_ast.specs.Asked.{asks_symbol, asks_term, asks_comp, asks_util, asks_decl, is_first}
 use Rattle.elastic_ast.specs.Typed.{broken_rule, first_of}
-use Rattle.elastic_ast.specs.Sums.{Compares, Holds, sum_value, comps_of, comparisons, util_value, utils_value, utility_of, utility_terms, symbol_name, symbols_of}
+use Rattle.elastic_ast.specs.Sums.{comps_of, comparisons, util_value, utils_value, utility_of, utility_terms, symbol_name, symbols_of, Assumes}
 use Rattle.elastic_ast.proofs.First.{first-append}
 use Rattle.elastic_ast.proofs.TypedLaws.{none_both}
 use Rattle.width_check.specs.Begun.{is_begun, is_linear}
@@ -32,10 +29,11 @@ use Rattle.width_check.proofs.CheckLaws.{other_broken, broken_parts}
 use Rattle.width_check.proofs.ScopeLaws.{step_take}
 use Rattle.width_check.proofs.Steps.{items_drop}
 use Rattle.size_terms.specs.declared.sums.Sum.{Sum}
-use Rattle.size_terms.specs.Rows.{RowHolds, RowsHold}
+use Rattle.size_terms.specs.Rows.{RowsHold}
+use Rattle.size_terms.specs.Coefficients.{rows_of_comp, rows_of}
 use Rattle.size_terms.specs.Growth.{sum_worth, is_near}
-use Rattle.size_terms.specs.Building.{is_short, is_near_util, IsDifference, Says, AddsComps}
-use Rattle.size_terms.proofs.RowLaws.{All-front, All-back}
+use Rattle.size_terms.specs.Building.{is_short, is_near_util, AddsComps}
+use Rattle.size_terms.proofs.CoefficientLaws.{rows_are}
 
 -- tests
 both : (a b : Bool) → a ≡ true → b ≡ true → (a && b) ≡ true
@@ -128,52 +126,7 @@ sound_few ds s = (utils_few 0 [] ds s.rules s.begun).0
 pub sound_near : (ds : List PlainDecl) → IsSound ds → list_all is_near_util (utility_terms ds) ≡ true
 sound_near ds s = (utils_few 0 [] ds s.rules s.begun).1
 
--- rows step by step
-pub adds_nothing : (symbols : List Name) (rows : List Linear) → AddsComps symbols rows rows []
-adds_nothing symbols rows = record {
-  holds = λ sizes. (λ h. (h, All-nil (Holds symbols sizes)), λ h. h.0);
-  short = λ h. h;
-}
-
-pub adds_both : (symbols : List Name) (a b c : List Linear) (xs ys zs : List Comp) → zs ≡ xs ++ ys → AddsComps symbols a b xs → AddsComps symbols b c ys → AddsComps symbols a c zs
-adds_both symbols a b c xs ys zs e p q = record {
-  holds = λ sizes. (
-    λ h.
-        let u : RowsHold b sizes × All (Holds symbols sizes) ys = (q.holds sizes).0 h in
-        let v : RowsHold a sizes × All (Holds symbols sizes) xs = (p.holds sizes).0 u.0 in
-        (v.0, subst (λ (l : List Comp). All (Holds symbols sizes) l) (sym e) (All-append (Holds symbols sizes) xs ys v.1 u.1)),
-    λ h.
-        let all : All (Holds symbols sizes) (xs ++ ys) = subst (λ (l : List Comp). All (Holds symbols sizes) l) e h.1 in
-        (q.holds sizes).1 ((p.holds sizes).1 (h.0, All-front (Holds symbols sizes) xs ys all), All-back (Holds symbols sizes) xs ys all),
-  );
-  short = λ h. q.short (p.short h);
-}
-
-compares_le : (r : Rel) (a b w : ℤ) → w ≡ a +ℤ neg_ℤ b → Compares r w (pos 0) → Compares r a b
-compares_le rel.Le a b w e h = omega (arith, ints, e, h)
-compares_le rel.Lt a b w e h = omega (arith, ints, e, h)
-compares_le rel.Ge a b w e h = omega (arith, ints, e, h)
-compares_le rel.Gt a b w e h = omega (arith, ints, e, h)
-compares_le rel.Eq a b w e h = omega (arith, ints, e, h)
-
-compares_ge : (r : Rel) (a b w : ℤ) → w ≡ a +ℤ neg_ℤ b → Compares r a b → Compares r w (pos 0)
-compares_ge rel.Le a b w e h = omega (arith, ints, e, h)
-compares_ge rel.Lt a b w e h = omega (arith, ints, e, h)
-compares_ge rel.Ge a b w e h = omega (arith, ints, e, h)
-compares_ge rel.Gt a b w e h = omega (arith, ints, e, h)
-compares_ge rel.Eq a b w e h = omega (arith, ints, e, h)
-
-pub adds_comp : (symbols : List Name) (comp : Comp) (sum : Sum) (old new : List Linear) → IsDifference symbols comp sum → Says comp.rel sum old new → AddsComps symbols old new (comp ∷ [])
-adds_comp symbols comp sum old new d s = record {
-  holds = λ sizes. (
-    λ h.
-        let u : RowsHold old sizes × Compares comp.rel (sum_worth sum sizes) (pos 0) = (s.holds sizes).0 h in
-        (u.0, All-cons (Holds symbols sizes) comp [] (compares_le comp.rel (sum_value symbols sizes comp.left) (sum_value symbols sizes comp.right) (sum_worth sum sizes) (d.worth sizes) u.1) (All-nil (Holds symbols sizes))),
-    λ h. (s.holds sizes).1 (h.0, compares_ge comp.rel (sum_value symbols sizes comp.left) (sum_value symbols sizes comp.right) (sum_worth sum sizes) (d.worth sizes) (All-head (Holds symbols sizes) comp [] h.1)),
-  );
-  short = λ h. s.short (length symbols) (sym d.dense) h;
-}
-
+-- lists step by step
 pub take_step : {X : Type 0} (xs : List X) (i : ℕ) (x : X) → i < length xs → x ≡ get_or xs i x → take (i + 1) xs ≡ take i xs ++ x ∷ []
 take_step xs i x h e = ap (λ k. take k xs) (add-one i) ∙ by xs i x h e
   where
@@ -194,11 +147,7 @@ test_rest p xs i x h e inv = right (p x) (list_all p (drop (i + 1) xs)) (ap (lis
 
 -- the comparisons of the declarations
 pub comps_taken : (ds : List Decl) (i : ℕ) (d : Decl) → i < length ds → d ≡ get_or ds i d → comparisons (seen_decls (take (i + 1) ds)) ≡ comparisons (seen_decls (take i ds)) ++ comps_of (seen_decl d)
-comps_taken ds i d h e = ap comparisons (step_take ds i d h e) ∙ flat_map-append comps_of (seen_decls (take i ds)) (seen_decl d ∷ []) ∙ ap (λ z. comparisons (seen_decls (take i ds)) ++ z) (append_nil (comps_of (seen_decl d)))
-  where
-    append_nil : {A : Type 0} (xs : List A) → xs ++ [] ≡ xs
-    append_nil [] = refl
-    append_nil (x ∷ xs) = ap (λ z. x ∷ z) (append_nil xs)
+comps_taken ds i d h e = ap comparisons (step_take ds i d h e) ∙ flat_map-append comps_of (seen_decls (take i ds)) (seen_decl d ∷ []) ∙ ap (λ z. comparisons (seen_decls (take i ds)) ++ z) (append-nil (comps_of (seen_decl d)))
 
 comps_dropped : (ds : List Decl) (i : ℕ) (d : Decl) → i < length ds → d ≡ get_or ds i d → list_all is_short (comparisons (seen_decls (drop i ds))) ≡ (list_all is_short (comps_of (seen_decl d)) && list_all is_short (comparisons (seen_decls (drop (i + 1) ds))))
 comps_dropped ds i d h e = ap (λ z. list_all is_short (comparisons (seen_decls z))) (items_drop ds i d h e) ∙ list_all-append is_short (comps_of (seen_decl d)) (comparisons (seen_decls (drop (i + 1) ds)))
@@ -227,9 +176,8 @@ utils_step symbols sum new ts i t sizes whole h e grown inv =
     omega (arith, ints, parts, grown, inv)
 
 -- the rows of a whole program
-pub assumes_are : (given taken : List Decl) (names : List Name) (rows : List Linear) → given ≡ taken → names ≡ symbols_of (seen_decls given) → AddsComps names [] rows (comparisons (seen_decls given))
-    → (sizes : List ℕ) → RowsHold rows sizes ↔ All (Holds (symbols_of (seen_decls taken)) sizes) (comparisons (seen_decls taken))
-assumes_are given taken names rows e n adds sizes =
-    let a : AddsComps (symbols_of (seen_decls given)) [] rows (comparisons (seen_decls given)) = subst (λ (z : List Name). AddsComps z [] rows (comparisons (seen_decls given))) n adds in
-    let b : AddsComps (symbols_of (seen_decls taken)) [] rows (comparisons (seen_decls taken)) = subst (λ (z : List Decl). AddsComps (symbols_of (seen_decls z)) [] rows (comparisons (seen_decls z))) e a in
-    (λ h. ((b.holds sizes).0 h).1, λ h. (b.holds sizes).1 (All-nil (RowHolds sizes), h))
+pub rows_given : (given taken : List Decl) (names : List Name) (rows : List Linear) → given ≡ taken → names ≡ symbols_of (seen_decls given) → AddsComps names [] rows (comparisons (seen_decls given)) → rows ≡ rows_of (seen_decls taken)
+rows_given given taken names rows e n adds = adds.added ∙ ap (λ z. flat_map (rows_of_comp z) (comparisons (seen_decls given))) n ∙ ap (λ z. rows_of (seen_decls z)) e
+
+pub rows_assume : (decls : List PlainDecl) (rows : List Linear) → rows ≡ rows_of decls → (sizes : List ℕ) → RowsHold rows sizes ↔ Assumes decls sizes
+rows_assume decls rows e sizes = subst (λ (z : List Linear). RowsHold z sizes ↔ Assumes decls sizes) (sym e) (rows_are decls sizes)

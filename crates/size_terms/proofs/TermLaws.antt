@@ -24,7 +24,7 @@ pub signed_sum : (minus : Bool) (a b : ℤ) → signed minus (a +ℤ b) ≡ sign
 signed_sum true a b = neg_ℤ-+ℤ a b
 signed_sum false a b = refl
 
-abs_neg : (z : ℤ) → unsigned_abs (neg_ℤ z) ≡ unsigned_abs z
+pub abs_neg : (z : ℤ) → unsigned_abs (neg_ℤ z) ≡ unsigned_abs z
 abs_neg (pos zero) = refl
 abs_neg (pos (suc n)) = refl
 abs_neg (negsuc n) = refl
@@ -33,7 +33,7 @@ abs_signed : (minus : Bool) (z : ℤ) → unsigned_abs (signed minus z) ≡ unsi
 abs_signed true z = abs_neg z
 abs_signed false z = refl
 
-times_neg : (n : ℕ) (z : ℤ) → pos n *ℤ neg_ℤ z ≡ neg_ℤ (pos n *ℤ z)
+pub times_neg : (n : ℕ) (z : ℤ) → pos n *ℤ neg_ℤ z ≡ neg_ℤ (pos n *ℤ z)
 times_neg n z =
     let e = times_sum n z (neg_ℤ z) in
     let f : pos n *ℤ (z +ℤ neg_ℤ z) ≡ pos n *ℤ pos 0 = ap (λ w. pos n *ℤ w) (nothing z) in
@@ -128,23 +128,14 @@ zero_is sum n e k = record {
 }
 
 -- a sum with its sign turned
-dot_neg : (by : List ℤ) (sizes : List ℕ) → dot (map neg_ℤ by) sizes ≡ neg_ℤ (dot by sizes)
-dot_neg [] sizes = refl
-dot_neg (a ∷ by) [] = refl
-dot_neg (a ∷ by) (s ∷ sizes) = let e = times_neg s a in let ih = dot_neg by sizes in omega (arith, ints, e, ih)
-
-weight_neg : (by : List ℤ) → weight (map neg_ℤ by) ≡ weight by
+pub weight_neg : (by : List ℤ) → weight (map neg_ℤ by) ≡ weight by
 weight_neg [] = refl
 weight_neg (a ∷ by) = let e = abs_neg a in let ih = weight_neg by in omega (arith, e, ih)
 
-length_neg : (by : List ℤ) → length (map neg_ℤ by) ≡ length by
-length_neg [] = refl
-length_neg (a ∷ by) = ap suc (length_neg by)
-
 pub negates_is : (sum other : Sum) → other.by.items ≡ map neg_ℤ sum.by.items → other.constant ≡ neg_ℤ sum.constant → Negates sum other
 negates_is sum other e k = record {
-  worth = λ sizes. let u : dot other.by.items sizes ≡ neg_ℤ (dot sum.by.items sizes) = ap (λ z. dot z sizes) e ∙ dot_neg sum.by.items sizes in omega (arith, ints, u, k);
-  dense = ap length e ∙ length_neg sum.by.items;
+  by = e;
+  constant = k;
   bulky =
       let u : weight other.by.items ≡ weight sum.by.items = ap weight e ∙ weight_neg sum.by.items in
       let v : unsigned_abs other.constant ≡ unsigned_abs sum.constant = ap unsigned_abs k ∙ abs_neg sum.constant in

@@ -1,6 +1,6 @@
 -- How the rows of comparisons are added to rows, and what is known of a program whose terms are few and small; this
 -- project's own.
-use Rattle.std.specs.Prelude.{◌≡◌, ◌↔◌, ℕ, ◌+◌, ◌≤◌, Bool, false, nat_le, ◌&&◌, List, length, All, pos, ◌+ℤ◌, neg_ℤ}
+use Rattle.std.specs.Prelude.{◌≡◌, ℕ, ◌+◌, ◌≤◌, Bool, false, nat_le, ◌&&◌, List, [], ◌∷◌, ◌++◌, length, map, flat_map, All, ℤ, pos, ◌+ℤ◌, neg_ℤ}
 use Rattle.std.specs.List.{list_all}
 use Rattle.elastic_ast.specs.declared.declarations.Comp.{Comp}
 use Rattle.elastic_ast.specs.declared.declarations.UtilTerm.{UtilTerm}
@@ -8,9 +8,11 @@ use Rattle.elastic_ast.specs.declared.declarations.UtilTerm.TheVariants as util
 use Rattle.elastic_ast.specs.declared.flat.Linear.{Linear}
 use Rattle.elastic_ast.specs.Tree.{Name}
 use Rattle.elastic_ast.specs.declared.declarations.Rel.{Rel}
-use Rattle.elastic_ast.specs.Sums.{Holds, Compares, sum_value, utils_value}
+use Rattle.elastic_ast.specs.declared.declarations.Rel.TheVariants as rel
+use Rattle.elastic_ast.specs.Sums.{sum_value, utils_value}
 use Rattle.size_terms.specs.declared.sums.Sum.{Sum}
-use Rattle.size_terms.specs.Rows.{RowHolds, RowsHold, IsShort}
+use Rattle.size_terms.specs.Rows.{IsShort}
+use Rattle.size_terms.specs.Coefficients.{rows_of_comp}
 use Rattle.size_terms.specs.Growth.{sum_worth, bulk, is_near}
 
 abbrev pub is_short : Comp → Bool
@@ -27,22 +29,25 @@ pub record IsDifference (symbols : List Name) (comp : Comp) (sum : Sum) : Type 0
   pub dense : length sum.by.items ≡ length symbols
   pub bulky : bulk sum ≤ 64000000000
 
--- a row holds exactly where a sum compares with 0
-abbrev pub IsBelow : Rel → Sum → Linear → Type 0
-IsBelow rel sum row = (sizes : List ℕ) → RowHolds sizes row ↔ Compares rel (sum_worth sum sizes) (pos 0)
+-- the row that says that a sum and a number are at most 0
+abbrev pub row_of_sum : ℕ → List ℤ → ℤ → Linear
+row_of_sum more by constant = record { by = by; most = neg_ℤ constant +ℤ neg_ℤ (pos more) }
+
+-- the rows that say how a sum compares with 0
+abbrev pub rows_of_sum : Rel → List ℤ → ℤ → List Linear
+rows_of_sum rel.Le by constant = row_of_sum 0 by constant ∷ []
+rows_of_sum rel.Lt by constant = row_of_sum 1 by constant ∷ []
+rows_of_sum rel.Ge by constant = row_of_sum 0 (map neg_ℤ by) (neg_ℤ constant) ∷ []
+rows_of_sum rel.Gt by constant = row_of_sum 1 (map neg_ℤ by) (neg_ℤ constant) ∷ []
+rows_of_sum rel.Eq by constant = row_of_sum 0 by constant ∷ row_of_sum 0 (map neg_ℤ by) (neg_ℤ constant) ∷ []
 
 -- each row has one coefficient a symbol, and none that is large
 abbrev pub RowsShort : ℕ → List Linear → Type 0
 RowsShort symbols rows = All (λ row. IsShort symbols row.by row.most) rows
 
--- the new rows hold exactly where the old ones do and a sum compares with 0; and they are short where the old ones are
-pub record Says (rel : Rel) (sum : Sum) (old new : List Linear) : Type 0 where
-  pub holds : (sizes : List ℕ) → RowsHold new sizes ↔ (RowsHold old sizes × Compares rel (sum_worth sum sizes) (pos 0))
-  pub short : (symbols : ℕ) → symbols ≡ length sum.by.items → RowsShort symbols old → RowsShort symbols new
-
--- the new rows hold exactly where the old ones do and the comparisons are true; and they are short where the old ones are
+-- the rows of comparisons stand behind the old ones; and the new rows are short where the old ones are
 pub record AddsComps (symbols : List Name) (old new : List Linear) (comps : List Comp) : Type 0 where
-  pub holds : (sizes : List ℕ) → RowsHold new sizes ↔ (RowsHold old sizes × All (Holds symbols sizes) comps)
+  pub added : new ≡ old ++ flat_map (rows_of_comp symbols) comps
   pub short : RowsShort (length symbols) old → RowsShort (length symbols) new
 
 -- a sum is the utility

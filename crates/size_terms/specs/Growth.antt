@@ -1,5 +1,5 @@
 -- How a sum of sizes grows term by term; this project's own.
-use Rattle.std.specs.Prelude.{◌≡◌, ℕ, ◌+◌, ◌≤◌, Bool, List, length, ℤ, pos, ◌+ℤ◌, neg_ℤ, unsigned_abs, nat_le}
+use Rattle.std.specs.Prelude.{◌≡◌, ℕ, ◌+◌, ◌≤◌, Bool, List, length, map, ℤ, pos, ◌+ℤ◌, neg_ℤ, unsigned_abs, nat_le}
 use Rattle.elastic_ast.specs.declared.declarations.LinTerm.{LinTerm}
 use Rattle.size_terms.specs.declared.sums.Sum.{Sum}
 use Rattle.size_terms.specs.Rows.{dot, weight}
@@ -29,6 +29,6 @@ pub record IsZero (sum : Sum) (symbols : ℕ) : Type 0 where
 
 -- one sum is the other with its sign turned
 pub record Negates (sum other : Sum) : Type 0 where
-  pub worth : (sizes : List ℕ) → sum_worth other sizes ≡ neg_ℤ (sum_worth sum sizes)
-  pub dense : length other.by.items ≡ length sum.by.items
+  pub by : other.by.items ≡ map neg_ℤ sum.by.items
+  pub constant : other.constant ≡ neg_ℤ sum.constant
   pub bulky : bulk other ≡ bulk sum

@@ -1,4 +1,5 @@
 pub mod Rows
 pub mod Places
+pub mod Coefficients
 pub mod Growth
 pub mod Building

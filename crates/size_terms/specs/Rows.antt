@@ -1,5 +1,5 @@
 -- Rows and sums with one coefficient a symbol, and what they are worth at given sizes; this project's own.
-use Rattle.std.specs.Prelude.{◌≡◌, ℕ, ◌+◌, ◌≤◌, List, [], ◌∷◌, length, All, ℤ, pos, ◌+ℤ◌, ◌*ℤ◌, ◌≤ℤ◌, unsigned_abs}
+use Rattle.std.specs.Prelude.{◌≡◌, ℕ, ◌+◌, ◌≤◌, Bool, true, false, List, [], ◌∷◌, length, All, ℤ, pos, negsuc, ◌+ℤ◌, ◌*ℤ◌, ◌≤ℤ◌, unsigned_abs}
 use Rattle.elastic_ast.specs.declared.flat.Linear.{Linear}
 use Rattle.elastic_ast.specs.declared.flat.Terms.{Terms}
 
@@ -19,6 +19,11 @@ RowsHold rows sizes = All (RowHolds sizes) rows
 -- the utility that the terms give at these sizes; step tables are none yet
 abbrev pub worth : Terms → List ℕ → ℤ
 worth terms sizes = terms.base +ℤ dot terms.by sizes
+
+-- a coefficient isn't negative
+abbrev pub is_whole : ℤ → Bool
+is_whole (pos by) = true
+is_whole (negsuc by) = false
 
 -- the absolute values of the coefficients, added up
 abbrev pub weight : List ℤ → ℕ

@@ -3,9 +3,11 @@
 ghost use Rattle.std.specs.Prelude.{◌≡◌, ◌↔◌, ◌≤◌, ◌++◌, true, [], List, ℕ, IfOk, OnOk, length};
 ghost use Rattle.std.specs.List.{list_all};
 ghost use Rattle.elastic_ast.specs.Seen.{seen_decl, seen_decls};
+ghost use Rattle.elastic_ast.specs.Tree.{PlainDecl};
 ghost use Rattle.elastic_ast.specs.Sums.{symbol_name, symbols_of, comps_of as comps_of_decl, comparisons, utility_terms, utility, util_value, Assumes};
 ghost use Rattle.width_check.specs.Sound.{IsSound};
 ghost use Rattle.size_terms.specs.Rows.{RowsHold, AreShort, worth};
+ghost use Rattle.size_terms.specs.Coefficients.{rows_of};
 ghost use Rattle.size_terms.specs.Building.{AddsComps, is_short, is_near_util, IsUtility};
 ghost use Rattle.size_terms.specs.Growth.{Grows, bulk};
 
@@ -57,7 +59,7 @@ fn push_comparisons(
 }
 
 /// The rows of all assume clauses.
-fn rows_of(
+fn assume_rows(
     alloc: Global,
     places: &Places<'_>,
     symbols: usize,
@@ -128,10 +130,11 @@ fn utility_sum(
 }
 
 /// What a checked program says of its sizes: its symbols in the order of declaration, a row or two for each comparison of
-/// its assume clauses, and its utility. The rows hold at sizes exactly where every comparison is true, and the utility is
-/// worth what the program's is. The one error is want of memory.
+/// its assume clauses in the order of the text, and its utility. The rows hold at sizes exactly where every comparison is
+/// true, and the utility is worth what the program's is. The one error is want of memory.
 pub fn terms(alloc: Global, checked: &Checked) -> Result<Terms, AllocError>
     ensures symbols { IfOk result (λ terms. terms.symbols ≡ symbols_of (seen_decls checked.now)) }
+    ensures rows { IfOk result (λ terms. terms.rows ≡ rows_of (seen_decls checked.now)) }
     ensures assumes { IfOk result (λ terms. (sizes : List ℕ) → RowsHold terms.rows sizes ↔ Assumes (seen_decls checked.now) sizes) }
     ensures utility { IfOk result (λ terms. (sizes : List ℕ) → worth terms sizes ≡ utility (seen_decls checked.now) sizes) }
     ensures short { IfOk result AreShort }
@@ -150,6 +153,12 @@ pub fn terms(alloc: Global, checked: &Checked) -> Result<Terms, AllocError>
     })
 }
 
+/// The rows of a program hold at sizes exactly where every comparison is true. It holds of the definitions, and takes no
+/// step.
+pub fn rows_say_comparisons()
+    ensures { (decls : List PlainDecl) (sizes : List ℕ) → RowsHold (rows_of decls) sizes ↔ Assumes decls sizes }
+{}
+
 /// The rows and the utility of declarations over their symbols.
 fn rows_and_utility(
     alloc: Global,
@@ -161,7 +170,7 @@ fn rows_and_utility(
     ensures utility { IfOk result (λ found. IsUtility symbols.now (utility_terms (seen_decls decls.now)) found.1) }
 {
     let places = Places::of(alloc, symbols)?;
-    let rows = rows_of(alloc, &places, symbols.len(), decls)?;
+    let rows = assume_rows(alloc, &places, symbols.len(), decls)?;
     let sum = utility_sum(alloc, &places, symbols.len(), util_terms_of(decls))?;
     Ok((rows, sum))
 }

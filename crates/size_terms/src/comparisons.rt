@@ -1,17 +1,13 @@
 //! The rows of comparisons.
 
-ghost use Rattle.std.specs.Prelude.{◌≡◌, ◌≤◌, ◌<◌, ◌+◌, true, false, [], ◌∷◌, ◌++◌, length, IfOk, OnOk, All};
-ghost use Rattle.std.specs.List.{list_all};
-ghost use Rattle.elastic_ast.specs.Seen.{seen_decls};
-ghost use Rattle.elastic_ast.specs.Sums.{comparisons, symbols_of};
-ghost use Rattle.size_terms.specs.Rows.{IsShort};
+ghost use Rattle.std.specs.Prelude.{◌≡◌, ◌≤◌, true, [], ◌∷◌, ◌++◌, length, IfOk, OnOk};
 ghost use Rattle.size_terms.specs.Growth.{bulk};
-ghost use Rattle.size_terms.specs.Building.{AddsComps, Says, IsDifference, IsBelow, is_short};
+ghost use Rattle.size_terms.specs.Building.{AddsComps, IsDifference, is_short, row_of_sum, rows_of_sum};
 ghost use Rattle.elastic_ast.specs.declared.declarations.Rel.TheVariants as rel;
 
 use crate::places::Places;
 use crate::sums::{Sum, add_terms, negated, zero_sum};
-use elastic_ast::{Comp, Decl, Linear, Rel};
+use elastic_ast::{Comp, Linear, Rel};
 use elx_bits::Items;
 use std::alloc::{AllocError, Global};
 
@@ -35,8 +31,7 @@ fn difference(
 /// The row that says that a sum is negative or 0.
 fn row_at_most(sum: Sum) -> Linear
     requires { bulk sum ≤ 64000000000 }
-    ensures below { IsBelow rel.Le sum result }
-    ensures short { IsShort (length sum.by.items) result.by result.most }
+    ensures { result ≡ row_of_sum 0 sum.by.items sum.constant }
 {
     let Sum { by, constant } = sum;
     Linear {
@@ -48,8 +43,7 @@ fn row_at_most(sum: Sum) -> Linear
 /// The row that says that a sum is negative.
 fn row_less(sum: Sum) -> Linear
     requires { bulk sum ≤ 64000000000 }
-    ensures below { IsBelow rel.Lt sum result }
-    ensures short { IsShort (length sum.by.items) result.by result.most }
+    ensures { result ≡ row_of_sum 1 sum.by.items sum.constant }
 {
     let Sum { by, constant } = sum;
     Linear {
@@ -68,7 +62,7 @@ fn push_row(rows: &mut Items<Linear>, row: Linear) -> Result<(), AllocError>
 /// Adds the row that says that a sum is negative or 0.
 fn push_at_most(rows: &mut Items<Linear>, sum: Sum) -> Result<(), AllocError>
     requires { bulk sum ≤ 64000000000 }
-    ensures { OnOk result (Says rel.Le sum rows.old rows.new) }
+    ensures { OnOk result (rows.new ≡ rows.old ++ rows_of_sum rel.Le sum.by.items sum.constant) }
 {
     push_row(rows, row_at_most(sum))
 }
@@ -76,7 +70,7 @@ fn push_at_most(rows: &mut Items<Linear>, sum: Sum) -> Result<(), AllocError>
 /// Adds the row that says that a sum is negative.
 fn push_less(rows: &mut Items<Linear>, sum: Sum) -> Result<(), AllocError>
     requires { bulk sum ≤ 64000000000 }
-    ensures { OnOk result (Says rel.Lt sum rows.old rows.new) }
+    ensures { OnOk result (rows.new ≡ rows.old ++ rows_of_sum rel.Lt sum.by.items sum.constant) }
 {
     push_row(rows, row_less(sum))
 }
@@ -84,7 +78,7 @@ fn push_less(rows: &mut Items<Linear>, sum: Sum) -> Result<(), AllocError>
 /// Adds the rows that say how a sum compares with 0.
 fn push_rows(alloc: Global, rows: &mut Items<Linear>, sum: Sum, rel: Rel) -> Result<(), AllocError>
     requires { bulk sum ≤ 64000000000 }
-    ensures { OnOk result (Says rel sum rows.old rows.new) }
+    ensures { OnOk result (rows.new ≡ rows.old ++ rows_of_sum rel sum.by.items sum.constant) }
 {
     match rel {
         Rel::Le => push_at_most(rows, sum),

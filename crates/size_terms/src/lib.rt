@@ -9,6 +9,6 @@ mod sums;
 mod tests;
 mod worth;
 
-pub use building::terms;
+pub use building::{rows_say_comparisons, terms};
 pub use places::Places;
 pub use worth::{holds, utility};

@@ -1,6 +1,7 @@
 use Rattle.std.proofs.Common.{◌∷◌, [], take}
 use Rattle.size_terms.specs.Building.{is_short}
-use Rattle.size_terms.proofs.BuildLaws.{adds_both, take_step, test_rest}
+use Rattle.size_terms.proofs.BuildLaws.{take_step, test_rest}
+use Rattle.size_terms.proofs.RowLaws.{adds_both}
 use Rattle.size_terms.proofs.building.push_comparisons.Goals as goal
 
 pub loop-comp-preserved : goal.loop-comp-preserved

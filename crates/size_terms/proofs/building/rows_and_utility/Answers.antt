@@ -6,8 +6,8 @@ use Rattle.size_terms.specs.Building.{is_near_util}
 use Rattle.size_terms.proofs.BuildLaws.{sound_short, sound_few, sound_near}
 use Rattle.size_terms.proofs.building.rows_and_utility.Goals as goal
 
-pub rows_of-requires-clause-short : goal.rows_of-requires-clause-short
-rows_of-requires-clause-short c = sound_short (seen_decls c.args.decls.now) c.requires
+pub assume_rows-requires-clause-short : goal.assume_rows-requires-clause-short
+assume_rows-requires-clause-short c = sound_short (seen_decls c.args.decls.now) c.requires
 
 pub utility_sum-requires-clause-few : goal.utility_sum-requires-clause-few
 utility_sum-requires-clause-few c = subst (λ (z : List UtilTerm). length z ≤ 64) (sym c.util_terms_of.ensures) (sound_few (seen_decls c.args.decls.now) c.requires)

@@ -1,5 +1,4 @@
-use Rattle.size_terms.proofs.RowLaws.{on_pushed}
-use Rattle.size_terms.proofs.BuildLaws.{adds_comp}
+use Rattle.size_terms.proofs.RowLaws.{on_pushed, adds_comp}
 use Rattle.size_terms.proofs.comparisons.push_comparison.Goals as goal
 
 pub returns : goal.returns

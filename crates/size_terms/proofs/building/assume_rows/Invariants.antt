@@ -3,7 +3,7 @@ use Rattle.std.specs.List.{list_all}
 use Rattle.elastic_ast.specs.Seen.{seen_decls}
 use Rattle.elastic_ast.specs.Sums.{comparisons}
 use Rattle.size_terms.specs.Building.{AddsComps, is_short}
-use Rattle.size_terms.proofs.building.rows_of.Given as goal
+use Rattle.size_terms.proofs.building.assume_rows.Given as goal
 
 abbrev pub invariant-loop-decl : goal.invariant-loop-decl
 invariant-loop-decl l = record {

@@ -3,8 +3,9 @@ use Rattle.elastic_ast.specs.declared.declarations.Comp.{Comp}
 use Rattle.elastic_ast.specs.Seen.{seen_decl, seen_decls}
 use Rattle.elastic_ast.specs.Sums.{comparisons, comps_of}
 use Rattle.size_terms.specs.Building.{AddsComps}
-use Rattle.size_terms.proofs.BuildLaws.{adds_both, comps_taken, short_rest}
-use Rattle.size_terms.proofs.building.rows_of.Goals as goal
+use Rattle.size_terms.proofs.BuildLaws.{comps_taken, short_rest}
+use Rattle.size_terms.proofs.RowLaws.{adds_both}
+use Rattle.size_terms.proofs.building.assume_rows.Goals as goal
 
 pub loop-decl-preserved : goal.loop-decl-preserved
 loop-decl-preserved c = record {
