@@ -1,1 +1,5 @@
+pub mod DeclSpelling
+pub mod FieldSpelling
+pub mod Signs
+pub mod SumSpelling
 pub mod Terms

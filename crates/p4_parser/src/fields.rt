@@ -1,8 +1,11 @@
 //! Fields and their widths.
 
-ghost use Rattle.std.specs.Prelude.{codes, IfOk, OnOk};
+ghost use Rattle.std.specs.Prelude.{ℕ, List, Option, codes, IfOk, OnOk};
+ghost use Rattle.elastic_ast.specs.declared.declarations.Field.{Field};
+ghost use Rattle.spelling.specs.Words.{Word};
 ghost use Rattle.spelling.specs.Grammar.{Each, Begins, IsSign};
-ghost use Rattle.spelling.specs.Reading.{ahead, Takes, MayTake};
+ghost use Rattle.spelling.specs.Reading.{ahead, Takes, MayTake, Ends, IsAnswer};
+ghost use Rattle.p4_parser.specs.GoesOn.{size_signs};
 ghost use Rattle.p4_parser.specs.Grammar.{SpellsBits, SpellsSize, SpellsMetaField};
 
 use elastic_ast::Field;
@@ -18,6 +21,7 @@ pub fn meta_fields(
 ) -> Result<Items<Field>, SyntaxError>
     ensures taken { IfOk result (λ fields. MayTake (Each (SpellsMetaField depth) fields) (ahead reader.old) (ahead reader.new)) }
     ensures ended { OnOk result (Begins (IsSign (codes "}")) (ahead reader.new)) }
+    ensures only { (fields : List Field) (rest : List Word) → MayTake (Each (SpellsMetaField depth) fields) (ahead reader.old) rest → Begins (IsSign (codes "}")) rest → IsAnswer (λ read. read) fields rest (ahead reader.new) result }
 {
     let mut fields = Items::new(alloc);
     'fields: while !reader.is_at_sign(b"}") {
@@ -29,7 +33,8 @@ pub fn meta_fields(
 
 /// `bit<WIDTH> NAME;` or `bit<WIDTH>[SIZE] NAME;`
 fn meta_field(alloc: Global, reader: &mut Reader<'_>, depth: u32) -> Result<Field, SyntaxError>
-    ensures { IfOk result (λ field. Takes (SpellsMetaField depth field) (ahead reader.old) (ahead reader.new)) }
+    ensures taken { IfOk result (λ field. Takes (SpellsMetaField depth field) (ahead reader.old) (ahead reader.new)) }
+    ensures only { (field : Field) (rest : List Word) → MayTake (SpellsMetaField depth field) (ahead reader.old) rest → IsAnswer (λ read. read) field rest (ahead reader.new) result }
 {
     let width = bits(reader)?;
     let size = array_size(alloc, reader, depth)?;
@@ -40,7 +45,8 @@ fn meta_field(alloc: Global, reader: &mut Reader<'_>, depth: u32) -> Result<Fiel
 
 /// `bit<WIDTH>`
 fn bits(reader: &mut Reader<'_>) -> Result<u8, SyntaxError>
-    ensures { IfOk result (λ width. Takes (SpellsBits width) (ahead reader.old) (ahead reader.new)) }
+    ensures taken { IfOk result (λ width. Takes (SpellsBits width) (ahead reader.old) (ahead reader.new)) }
+    ensures only { (width : ℕ) (rest : List Word) → MayTake (SpellsBits width) (ahead reader.old) rest → IsAnswer (λ read. read) width rest (ahead reader.new) result }
 {
     reader.reserved(b"bit")?;
     reader.sign(b"<")?;
@@ -55,7 +61,8 @@ fn array_size(
     reader: &mut Reader<'_>,
     depth: u32,
 ) -> Result<Option<Name>, SyntaxError>
-    ensures { IfOk result (λ size. MayTake (SpellsSize depth size) (ahead reader.old) (ahead reader.new)) }
+    ensures taken { IfOk result (λ size. MayTake (SpellsSize depth size) (ahead reader.old) (ahead reader.new)) }
+    ensures only { (size : Option (List ℕ)) (rest : List Word) → MayTake (SpellsSize depth size) (ahead reader.old) rest → Ends size_signs rest → IsAnswer (λ read. read) size rest (ahead reader.new) result }
 {
     if !reader.is_at_sign(b"[") {
         return Ok(None);

@@ -1,8 +1,11 @@
 ghost use Rattle.std.specs.Prelude.{ℕ, ◌≤◌, List, length, IfOk};
 ghost use Rattle.elastic_ast.specs.Seen.{seen_decl, seen_program};
-ghost use Rattle.elastic_ast.specs.Tree.{PlainDecl};
+ghost use Rattle.elastic_ast.specs.Tree.{PlainDecl, PlainProgram};
+ghost use Rattle.elastic_ast.specs.declared.declarations.Comp.{Comp};
+ghost use Rattle.elastic_ast.specs.declared.declarations.Field.{Field};
+ghost use Rattle.elastic_ast.specs.declared.declarations.UtilTerm.{UtilTerm};
 ghost use Rattle.spelling.specs.Words.{Word, words};
-ghost use Rattle.spelling.specs.Reading.{ahead, Takes, MayTake, IsAnswer};
+ghost use Rattle.spelling.specs.Reading.{ahead, Takes, MayTake, IsAnswer, IsRead};
 ghost use Rattle.p4_parser.specs.Grammar.{Spells, SpellsDecl};
 
 use crate::fields::meta_fields;
@@ -25,6 +28,7 @@ pub fn parse(
     most_depth: u32,
 ) -> Result<Program, SyntaxError>
     ensures spelled { IfOk result (λ program. Spells most_depth (seen_program program) (words text.now tokens.now)) }
+    ensures only { (decls : PlainProgram) → Spells most_depth decls (words text.now tokens.now) → IsRead seen_program decls result }
     ensures few { IfOk result (λ program. length program.decls ≤ length tokens.now) }
 {
     let mut reader = Reader::new(text, tokens);
@@ -38,7 +42,8 @@ pub fn parse(
 
 /// Reads one declaration, which its first token determines.
 fn declaration(alloc: Global, reader: &mut Reader<'_>, depth: u32) -> Result<Decl, SyntaxError>
-    ensures { IfOk result (λ decl. Takes (SpellsDecl depth (seen_decl decl)) (ahead reader.old) (ahead reader.new)) }
+    ensures taken { IfOk result (λ decl. Takes (SpellsDecl depth (seen_decl decl)) (ahead reader.old) (ahead reader.new)) }
+    ensures only { (decl : PlainDecl) (rest : List Word) → MayTake (SpellsDecl depth decl) (ahead reader.old) rest → IsAnswer seen_decl decl rest (ahead reader.new) result }
 {
     if reader.is_at_reserved(b"symbolic") {
         return symbol(alloc, reader);
@@ -69,7 +74,8 @@ fn symbol(alloc: Global, reader: &mut Reader<'_>) -> Result<Decl, SyntaxError>
 
 /// `assume(COMPARISONS);`
 fn assume(alloc: Global, reader: &mut Reader<'_>, depth: u32) -> Result<Decl, SyntaxError>
-    ensures { IfOk result (λ decl. Takes (SpellsDecl depth (seen_decl decl)) (ahead reader.old) (ahead reader.new)) }
+    ensures taken { IfOk result (λ decl. Takes (SpellsDecl depth (seen_decl decl)) (ahead reader.old) (ahead reader.new)) }
+    ensures only { (comps : List Comp) (rest : List Word) → MayTake (SpellsDecl depth (PlainDecl.Assume comps)) (ahead reader.old) rest → IsAnswer seen_decl (PlainDecl.Assume comps) rest (ahead reader.new) result }
 {
     reader.fixed_name(b"assume")?;
     let _inner = reader.open(b"(", depth)?;
@@ -81,7 +87,8 @@ fn assume(alloc: Global, reader: &mut Reader<'_>, depth: u32) -> Result<Decl, Sy
 
 /// `maximize(UTILITY);`
 fn maximize(alloc: Global, reader: &mut Reader<'_>, depth: u32) -> Result<Decl, SyntaxError>
-    ensures { IfOk result (λ decl. Takes (SpellsDecl depth (seen_decl decl)) (ahead reader.old) (ahead reader.new)) }
+    ensures taken { IfOk result (λ decl. Takes (SpellsDecl depth (seen_decl decl)) (ahead reader.old) (ahead reader.new)) }
+    ensures only { (terms : List UtilTerm) (rest : List Word) → MayTake (SpellsDecl depth (PlainDecl.Maximize terms)) (ahead reader.old) rest → IsAnswer seen_decl (PlainDecl.Maximize terms) rest (ahead reader.new) result }
 {
     reader.fixed_name(b"maximize")?;
     let _inner = reader.open(b"(", depth)?;
@@ -93,7 +100,8 @@ fn maximize(alloc: Global, reader: &mut Reader<'_>, depth: u32) -> Result<Decl, 
 
 /// `struct meta_t { FIELDS }`
 fn meta(alloc: Global, reader: &mut Reader<'_>, depth: u32) -> Result<Decl, SyntaxError>
-    ensures { IfOk result (λ decl. Takes (SpellsDecl depth (seen_decl decl)) (ahead reader.old) (ahead reader.new)) }
+    ensures taken { IfOk result (λ decl. Takes (SpellsDecl depth (seen_decl decl)) (ahead reader.old) (ahead reader.new)) }
+    ensures only { (fields : List Field) (rest : List Word) → MayTake (SpellsDecl depth (PlainDecl.Meta fields)) (ahead reader.old) rest → IsAnswer seen_decl (PlainDecl.Meta fields) rest (ahead reader.new) result }
 {
     reader.reserved(b"struct")?;
     reader.fixed_name(b"meta_t")?;

@@ -1,7 +1,13 @@
 //! Sums of terms, comparisons of sums, and the utility.
 
-ghost use Rattle.std.specs.Prelude.{◌≡◌, IfOk, IfSome, None};
-ghost use Rattle.spelling.specs.Reading.{ahead, Takes};
+ghost use Rattle.std.specs.Prelude.{◌≡◌, Bool, List, IfOk, IfSome, Some, None};
+ghost use Rattle.elastic_ast.specs.declared.declarations.Comp.{Comp};
+ghost use Rattle.elastic_ast.specs.declared.declarations.LinTerm.{LinTerm};
+ghost use Rattle.elastic_ast.specs.declared.declarations.Rel.{Rel};
+ghost use Rattle.elastic_ast.specs.declared.declarations.UtilTerm.{UtilTerm};
+ghost use Rattle.spelling.specs.Words.{Word};
+ghost use Rattle.spelling.specs.Reading.{ahead, Takes, MayTake, Ends, IsAnswer};
+ghost use Rattle.p4_parser.specs.GoesOn.{product_signs, sum_signs, comparison_signs};
 ghost use Rattle.p4_parser.specs.Grammar.{SpellsProduct, SpellsSign, SpellsSum, SpellsRelation, SpellsComparison, SpellsComparisons, SpellsUtility};
 
 use elastic_ast::{Comp, LinTerm, Rel, UtilTerm};
@@ -11,7 +17,8 @@ use std::alloc::Global;
 
 /// Reads comparisons with `&&` between them.
 pub fn comparisons(alloc: Global, reader: &mut Reader<'_>) -> Result<Items<Comp>, SyntaxError>
-    ensures { IfOk result (λ comps. Takes (SpellsComparisons comps) (ahead reader.old) (ahead reader.new)) }
+    ensures taken { IfOk result (λ comps. Takes (SpellsComparisons comps) (ahead reader.old) (ahead reader.new)) }
+    ensures only { (comps : List Comp) (rest : List Word) → MayTake (SpellsComparisons comps) (ahead reader.old) rest → Ends comparison_signs rest → IsAnswer (λ read. read) comps rest (ahead reader.new) result }
 {
     let mut comps = Items::new(alloc);
     let first = comparison(alloc, reader)?;
@@ -25,7 +32,8 @@ pub fn comparisons(alloc: Global, reader: &mut Reader<'_>) -> Result<Items<Comp>
 
 /// Reads the terms of a utility, each but the first with its sign.
 pub fn utility(alloc: Global, reader: &mut Reader<'_>) -> Result<Items<UtilTerm>, SyntaxError>
-    ensures { IfOk result (λ terms. Takes (SpellsUtility terms) (ahead reader.old) (ahead reader.new)) }
+    ensures taken { IfOk result (λ terms. Takes (SpellsUtility terms) (ahead reader.old) (ahead reader.new)) }
+    ensures only { (terms : List UtilTerm) (rest : List Word) → MayTake (SpellsUtility terms) (ahead reader.old) rest → Ends sum_signs rest → IsAnswer (λ read. read) terms rest (ahead reader.new) result }
 {
     let mut terms = Items::new(alloc);
     let first = term(alloc, reader, false)?;
@@ -39,7 +47,8 @@ pub fn utility(alloc: Global, reader: &mut Reader<'_>) -> Result<Items<UtilTerm>
 
 /// Reads two sums with a relation between them.
 fn comparison(alloc: Global, reader: &mut Reader<'_>) -> Result<Comp, SyntaxError>
-    ensures { IfOk result (λ comp. Takes (SpellsComparison comp) (ahead reader.old) (ahead reader.new)) }
+    ensures taken { IfOk result (λ comp. Takes (SpellsComparison comp) (ahead reader.old) (ahead reader.new)) }
+    ensures only { (comp : Comp) (rest : List Word) → MayTake (SpellsComparison comp) (ahead reader.old) rest → Ends sum_signs rest → IsAnswer (λ read. read) comp rest (ahead reader.new) result }
 {
     let left = sum(alloc, reader)?;
     let rel = relation(reader)?;
@@ -49,7 +58,8 @@ fn comparison(alloc: Global, reader: &mut Reader<'_>) -> Result<Comp, SyntaxErro
 
 /// Reads the terms of a sum, each but the first with its sign.
 fn sum(alloc: Global, reader: &mut Reader<'_>) -> Result<Items<LinTerm>, SyntaxError>
-    ensures { IfOk result (λ terms. Takes (SpellsSum terms) (ahead reader.old) (ahead reader.new)) }
+    ensures taken { IfOk result (λ terms. Takes (SpellsSum terms) (ahead reader.old) (ahead reader.new)) }
+    ensures only { (terms : List LinTerm) (rest : List Word) → MayTake (SpellsSum terms) (ahead reader.old) rest → Ends sum_signs rest → IsAnswer (λ read. read) terms rest (ahead reader.new) result }
 {
     let mut terms = Items::new(alloc);
     let first = term(alloc, reader, false)?;
@@ -65,6 +75,7 @@ fn sum(alloc: Global, reader: &mut Reader<'_>) -> Result<Items<LinTerm>, SyntaxE
 fn term(alloc: Global, reader: &mut Reader<'_>, minus: bool) -> Result<LinTerm, SyntaxError>
     ensures minus { IfOk result (λ term. term.minus ≡ minus) }
     ensures taken { IfOk result (λ term. Takes (SpellsProduct term.by term.symbol) (ahead reader.old) (ahead reader.new)) }
+    ensures only { (term : LinTerm) (rest : List Word) → term.minus ≡ minus → MayTake (SpellsProduct term.by term.symbol) (ahead reader.old) rest → Ends product_signs rest → IsAnswer (λ read. read) term rest (ahead reader.new) result }
 {
     if !reader.is_at_number() {
         let symbol = Some(reader.name(alloc)?);
@@ -90,6 +101,7 @@ fn term(alloc: Global, reader: &mut Reader<'_>, minus: bool) -> Result<LinTerm, 
 fn sign(reader: &mut Reader<'_>) -> Option<bool>
     ensures taken { IfSome result (λ minus. Takes (SpellsSign minus) (ahead reader.old) (ahead reader.new)) }
     ensures left { result ≡ None → reader.new ≡ reader.old }
+    ensures only { (minus : Bool) (rest : List Word) → MayTake (SpellsSign minus) (ahead reader.old) rest → (result ≡ Some minus) × (ahead reader.new ≡ rest) }
 {
     if reader.eat_sign(b"-") {
         return Some(true);
@@ -102,7 +114,8 @@ fn sign(reader: &mut Reader<'_>) -> Option<bool>
 
 /// Reads a relation.
 fn relation(reader: &mut Reader<'_>) -> Result<Rel, SyntaxError>
-    ensures { IfOk result (λ rel. Takes (SpellsRelation rel) (ahead reader.old) (ahead reader.new)) }
+    ensures taken { IfOk result (λ rel. Takes (SpellsRelation rel) (ahead reader.old) (ahead reader.new)) }
+    ensures only { (rel : Rel) (rest : List Word) → MayTake (SpellsRelation rel) (ahead reader.old) rest → IsAnswer (λ read. read) rel rest (ahead reader.new) result }
 {
     if reader.eat_sign(b"<=") {
         return Ok(Rel::Le);

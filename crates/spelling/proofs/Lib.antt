@@ -1,2 +1,4 @@
+pub mod Only
 pub mod Places
 pub mod Taking
+pub mod Whole

@@ -47,6 +47,9 @@ may_empty = record { front = []; joined = refl; spelled = refl }
 pub spells_all : (Of : Grammar) {a : List Word} → MayTake Of a [] → Of a
 spells_all Of t = subst Of (sym (t.joined ∙ append-nil t.front)) t.spelled
 
+pub all_taken : (Of : Grammar) {a : List Word} → Of a → MayTake Of a []
+all_taken Of {a = a} s = record { front = a; joined = sym (append-nil a); spelled = s }
+
 each_push : {A : Type 0} (Of : A → Grammar) (xs : List A) (x : A) (front back : List Word) → Each Of xs front → Of x back → Each Of (xs ++ x ∷ []) (front ++ back)
 each_push Of [] x front back e s =
     record {

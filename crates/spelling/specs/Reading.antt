@@ -1,7 +1,7 @@
 -- What a reader has taken of the words before it, this project's own.
-use Rattle.std.specs.Prelude.{◌≡◌, ℕ, ◌-◌, ◌^◌, ◌<◌, min, List, ◌++◌, drop, length, Result, Ok, Err}
+use Rattle.std.specs.Prelude.{◌≡◌, ℕ, ◌-◌, ◌^◌, ◌<◌, min, List, [], ◌∷◌, ◌++◌, drop, length, Result, Ok, Err}
 use Rattle.spelling.specs.Words.{Word, words}
-use Rattle.spelling.specs.Grammar.{Grammar}
+use Rattle.spelling.specs.Grammar.{Grammar, Begins, IsSign}
 use Rattle.spelling.specs.declared.error.SyntaxError.{SyntaxError}
 use Rattle.spelling.specs.declared.error.SyntaxError.TheVariants as error
 use Rattle.spelling.specs.declared.reader.Reader.{Reader}
@@ -40,10 +40,24 @@ MayNotOpen Stands depth at error.Memory = ⊥
 MayNotOpen Stands depth at (error.NotProgram token) = (token ≡ at) × (Stands → ⊥)
 MayNotOpen Stands depth at (error.TooDeep token) = (token ≡ at) × Stands × (depth ≡ 0)
 
+-- want of memory, which says nothing of the words
+abbrev pub IsWant : SyntaxError → Type 0
+IsWant error.Memory = Unit {0}
+IsWant (error.NotProgram token) = ⊥
+IsWant (error.TooDeep token) = ⊥
+
 -- What a reader must answer where the words before it spell x and end at `rest`: x, and it stops there; or it wants
 -- memory.
 abbrev pub IsAnswer : {A B : Type 0} → (A → B) → B → List Word → List Word → Result A SyntaxError → Type 0
 IsAnswer seen x rest after (Ok y) = (seen y ≡ x) × (after ≡ rest)
-IsAnswer seen x rest after (Err error.Memory) = Unit {0}
-IsAnswer seen x rest after (Err (error.NotProgram token)) = ⊥
-IsAnswer seen x rest after (Err (error.TooDeep token)) = ⊥
+IsAnswer seen x rest after (Err error) = IsWant error
+
+-- What a reader must answer where what is before it spells x and nothing stands behind: x; or it wants memory.
+abbrev pub IsRead : {A B : Type 0} → (A → B) → B → Result A SyntaxError → Type 0
+IsRead seen x (Ok y) = seen y ≡ x
+IsRead seen x (Err error) = IsWant error
+
+-- None of these signs stands first. A reader that goes on at a sign has read the whole only where none follows.
+abbrev pub Ends : List (List ℕ) → List Word → Type 0
+Ends [] ws = Unit {0}
+Ends (sign ∷ signs) ws = (Begins (IsSign sign) ws → ⊥) × Ends signs ws

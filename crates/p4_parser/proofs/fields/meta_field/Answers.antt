@@ -1,6 +1,36 @@
+use Rattle.spelling.proofs.Only.{after, after_one, alone, ends_name, named_same, same_end, want_answers, wants, wants_name, wants_one}
 use Rattle.spelling.proofs.Taking.{takes_both, may_takes}
+use Rattle.p4_parser.specs.GoesOn.{size_signs}
+use Rattle.p4_parser.proofs.FieldSpelling.{same_field}
 use Rattle.p4_parser.proofs.fields.meta_field.Goals as goal
 
-pub returns : goal.returns
-returns c =
-    takes_both c.in_ok-width.ensures (may_takes c.in_ok-size.ensures (takes_both c.in_ok-name.ensures.taken c.in_ok-sign.ensures.taken))
+pub returns-clause-taken : goal.returns-clause-taken
+returns-clause-taken c =
+    takes_both c.in_ok-width.ensures.taken (may_takes c.in_ok-size.ensures.taken (takes_both c.in_ok-name.ensures.taken c.in_ok-sign.ensures.taken))
+
+pub returns-in_err-width-clause-only : goal.returns-in_err-width-clause-only
+returns-in_err-width-clause-only c = λ field rest m.
+    want_answers _ _ _ _ _ c.from_residual.result c.from_residual.ensures.1 (wants m (λ b f s. c.in_err-width.ensures.only field.width b f))
+
+pub returns-in_err-size-clause-only : goal.returns-in_err-size-clause-only
+returns-in_err-size-clause-only c = λ field rest m.
+    let m1 = after m (λ b f s. c.in_ok-width.ensures.only field.width b f) in
+    want_answers _ _ _ _ _ c.from_residual-in_err-size.result c.from_residual-in_err-size.ensures.1 (wants m1.1 (λ b f s. c.in_err-size.ensures.only field.size b f (ends_name size_signs s)))
+
+pub returns-in_err-name-clause-only : goal.returns-in_err-name-clause-only
+returns-in_err-name-clause-only c = λ field rest m.
+    let m1 = after m (λ b f s. c.in_ok-width.ensures.only field.width b f) in
+    let m2 = after m1.1 (λ b f s. c.in_ok-size.ensures.only field.size b f (ends_name size_signs s)) in
+    want_answers _ _ _ _ _ c.from_residual-in_err-name.result c.from_residual-in_err-name.ensures.1 (wants_name _ _ m2.1 c.in_err-name.ensures.refused)
+
+pub returns-in_err-sign-clause-only : goal.returns-in_err-sign-clause-only
+returns-in_err-sign-clause-only c = λ field rest m.
+    let m1 = after m (λ b f s. c.in_ok-width.ensures.only field.width b f) in
+    let m2 = after m1.1 (λ b f s. c.in_ok-size.ensures.only field.size b f (ends_name size_signs s)) in
+    want_answers _ _ _ _ _ c.from_residual-in_err-sign.result c.from_residual-in_err-sign.ensures.1 (wants_one _ _ (alone (after_one m2.1 c.in_ok-name.ensures.taken)) c.in_err-sign.ensures.refused)
+
+pub returns-clause-only : goal.returns-clause-only
+returns-clause-only c = λ field rest m.
+    let m1 = after m (λ b f s. c.in_ok-width.ensures.only field.width b f) in
+    let m2 = after m1.1 (λ b f s. c.in_ok-size.ensures.only field.size b f (ends_name size_signs s)) in
+    (same_field _ field (named_same m2.1 c.in_ok-name.ensures.taken) m1.0 m2.0, same_end (after_one m2.1 c.in_ok-name.ensures.taken) c.in_ok-sign.ensures.taken)

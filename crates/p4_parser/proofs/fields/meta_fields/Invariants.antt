@@ -1,11 +1,17 @@
-use Rattle.std.proofs.Common.{length}
-use Rattle.spelling.specs.Grammar.{Each}
+use Rattle.std.proofs.Common.{List, codes, length}
+use Rattle.elastic_ast.specs.declared.declarations.Field.{Field}
+use Rattle.spelling.specs.Words.{Word}
+use Rattle.spelling.specs.Grammar.{Begins, Each, IsSign}
 use Rattle.spelling.specs.Reading.{ahead, MayTake}
+use Rattle.spelling.proofs.Whole.{Left}
 use Rattle.p4_parser.specs.Grammar.{SpellsMetaField}
 use Rattle.p4_parser.proofs.fields.meta_fields.Given as goal
 
 abbrev pub invariant-fields : goal.invariant-fields
-invariant-fields l = MayTake (Each (SpellsMetaField l.depth) l.fields) (ahead l.fn.reader) (ahead l.reader)
+invariant-fields l = record {
+  taken : MayTake (Each (SpellsMetaField l.depth) l.fields) (ahead l.fn.reader) (ahead l.reader);
+  only : (all : List Field) (rest : List Word) → MayTake (Each (SpellsMetaField l.depth) all) (ahead l.fn.reader) rest → Begins (IsSign (codes "}")) rest → Left (SpellsMetaField l.depth) l.fields all (ahead l.reader) rest;
+}
 
 abbrev pub decreases-fields : goal.decreases-fields
 decreases-fields l = length (ahead l.reader)

@@ -1,0 +1,19 @@
+-- The signs at which the spelling of a part of a program goes on, this project's own: where none of them follows, the
+-- part is read whole.
+use Rattle.std.specs.Prelude.{ℕ, List, [], ◌∷◌, codes}
+
+-- a name that follows may be that of a field without a size
+abbrev pub size_signs : List (List ℕ)
+size_signs = codes "[" ∷ []
+
+-- after a number a sign may follow with what it is times
+abbrev pub product_signs : List (List ℕ)
+product_signs = codes "*" ∷ []
+
+-- after a product, or with a sign one more
+abbrev pub sum_signs : List (List ℕ)
+sum_signs = codes "*" ∷ codes "+" ∷ codes "-" ∷ []
+
+-- after the sum that ends a comparison, or with a sign one more comparison
+abbrev pub comparison_signs : List (List ℕ)
+comparison_signs = codes "*" ∷ codes "+" ∷ codes "-" ∷ codes "&&" ∷ []
