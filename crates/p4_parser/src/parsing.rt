@@ -20,7 +20,8 @@ use std::alloc::Global;
 /// text in bytes, and its tokens.
 ///
 /// NotProgram names the token at which the reading stopped: there it neither goes on nor ends a declaration. TooDeep
-/// names a token that opens more than `most_depth` brackets. Memory comes only for want of memory.
+/// names a token that opens more than `most_depth` brackets. Either says that the tokens spell no program within that
+/// depth. Memory comes only for want of memory.
 pub fn parse(
     alloc: Global,
     text: &[u8],

@@ -2,10 +2,12 @@
 use Rattle.std.proofs.Common.{◌≡◌, ℕ, zero, suc, ◌+◌, ◌-◌, ◌/◌, ◌%◌, ◌^◌, ◌<◌, ◌≤◌, List, [], ◌∷◌, length, get_or, Option, Some, refl, sym, ap, ◌∙◌, subst, arith, ℤ, ◌⊎◌, inl, inr}
 use Rattle.std.specs.Prelude.{Result, Ok, Err, IfOk, IsSome, ◌≤ℤ◌}
 use Rattle.std.proofs.Math.Nat.{mod-lt, div-eq_of_lt}
+use Rattle.elastic_ast.specs.declared.flat.At.{At}
 use Rattle.elastic_ast.specs.declared.flat.Terms.{Terms}
 use Rattle.elastic_ast.specs.Tree.{PlainDecl}
 use Rattle.elastic_ast.specs.Sums.{symbols_of, utility}
 use Rattle.size_terms.specs.Rows.{worth}
+use Rattle.size_terms.specs.Coefficients.{rows_of}
 use Rattle.target_desc.specs.declared.target.Target.{Target}
 use Rattle.p4all_top.specs.HeaderBits.{metadata}
 use Rattle.p4all_top.specs.HeaderUse.{capped, symbol_bits, IsUseOf}
@@ -14,12 +16,14 @@ use Rattle.p4all_top.specs.Bounding.{AreBounds}
 use Rattle.p4all_top.specs.Feasible.{Feasible}
 use Rattle.p4all_top.specs.Listing.{IsWithin, points_in, point_at, IsOpen}
 use Rattle.p4all_top.specs.Picking.{IsPicked}
-use Rattle.p4all_top.specs.Choice.{AreTermsOf, AreBoundsOf, AreBest, IsUnbounded, IsChoice, bound_of}
+use Rattle.p4all_top.specs.Choice.{AreTermsOf, AreBoundsOf, IsUnbounded, IsChoice, bound_of}
+use Rattle.p4all_top.specs.Optimum.{Best, Infeasible}
 use Rattle.p4all_top.specs.declared.header.HeaderUse.{HeaderUse}
 use Rattle.p4all_top.specs.declared.choosing.Choice.{Choice}
 use Rattle.p4all_top.specs.declared.choosing.Choice.TheVariants as choice
 use Rattle.p4all_top.specs.declared.bounds.Bounds.TheVariants as bounds
 use Rattle.p4all_top.proofs.UseLaws.{taken_law}
+use Rattle.p4all_top.proofs.WithinLaws.{feasible_within}
 use Rattle.p4all_top.proofs.ListingLaws.{length_point, numbered}
 
 -- what the calls below are given: the bits of a program, its terms and a target whose numbers are small
@@ -36,8 +40,8 @@ feasible decls terms target bits given sizes sized good = record {
   header = (taken_law decls bits target.header_bits sizes given.use_is given.small sized).0 good.header;
 }
 
-opened : (decls : List PlainDecl) (terms : Terms) (target : Target) (bits : HeaderUse) → Given decls terms target bits → (sizes : List ℕ) → Feasible decls target sizes [] → IsOpen terms bits target.header_bits sizes
-opened decls terms target bits given sizes good = record {
+opened : (decls : List PlainDecl) (terms : Terms) (target : Target) (bits : HeaderUse) → Given decls terms target bits → (sizes : List ℕ) (placement : List At) → Feasible decls target sizes placement → IsOpen terms bits target.header_bits sizes
+opened decls terms target bits given sizes placement good = record {
   rows = (given.terms_are.assumes sizes).1 good.assumed;
   header = (taken_law decls bits target.header_bits sizes given.use_is given.small good.sized).1 good.header;
 }
@@ -67,13 +71,14 @@ bits_same (suc a) (suc b) limit small e = by (near (suc a) (suc b) e)
 
 -- the bounds that the code finds are those of the program
 bound_same : (decls : List PlainDecl) (terms : Terms) (target : Target) (bits : HeaderUse) → Given decls terms target bits → (place : ℕ) → place < length (symbols_of decls)
-    → bound_of decls terms target place ≡ bound_at terms.rows (λ place. get_or bits.symbol_bits.items place 0) target.header_bits place
+    → bound_of decls target place ≡ bound_at terms.rows (λ place. get_or bits.symbol_bits.items place 0) target.header_bits place
 bound_same decls terms target bits given place h =
-    ap (λ z. lesser z (rows_bound place terms.rows))
+    ap (λ z. lesser z (rows_bound place (rows_of decls)))
     (bits_same (symbol_bits (symbols_of decls) place (metadata decls)) (get_or bits.symbol_bits.items place 0) target.header_bits given.small (sym (given.use_is.each place h)))
+    ∙ ap (λ z. lesser (bits_bound target.header_bits (get_or bits.symbol_bits.items place 0)) (rows_bound place z)) (sym given.terms_are.rows)
 
 pub unbounded : (decls : List PlainDecl) (terms : Terms) (target : Target) (bits : HeaderUse) (symbol : ℕ) → Given decls terms target bits
-    → AreBounds (length terms.symbols) (bound_at terms.rows (λ place. get_or bits.symbol_bits.items place 0) target.header_bits) (bounds.Missing symbol) → IsUnbounded decls terms target symbol
+    → AreBounds (length terms.symbols) (bound_at terms.rows (λ place. get_or bits.symbol_bits.items place 0) target.header_bits) (bounds.Missing symbol) → IsUnbounded decls target symbol
 unbounded decls terms target bits symbol given are =
     let within : symbol < length (symbols_of decls) = let e = ap length given.terms_are.symbols in let w = are.0 in omega (arith, e, w) in
     record {
@@ -83,55 +88,55 @@ unbounded decls terms target bits symbol given are =
     }
 
 bounds_are : (decls : List PlainDecl) (terms : Terms) (target : Target) (bits : HeaderUse) (found : List ℕ) → Given decls terms target bits → length found ≡ length terms.symbols
-    → ((place : ℕ) → place < length terms.symbols → bound_at terms.rows (λ place. get_or bits.symbol_bits.items place 0) target.header_bits place ≡ Some (get_or found place 0)) → AreBoundsOf decls terms target found
+    → ((place : ℕ) → place < length terms.symbols → bound_at terms.rows (λ place. get_or bits.symbol_bits.items place 0) target.header_bits place ≡ Some (get_or found place 0)) → AreBoundsOf decls target found
 bounds_are decls terms target bits found given dense each = record {
   dense = dense ∙ ap length given.terms_are.symbols;
   each = λ place h. bound_same decls terms target bits given place h ∙ each place (let e = ap length given.terms_are.symbols in omega (arith, e, h));
 }
 
--- no sizes within the bounds are worth more than every listed point
-best_of_all : (decls : List PlainDecl) (terms : Terms) (target : Target) (bits : HeaderUse) (found : List ℕ) (most : ℤ) → Given decls terms target bits
+-- no feasible sizes are worth more than every listed point
+best_of_all : (decls : List PlainDecl) (terms : Terms) (target : Target) (bits : HeaderUse) (found : List ℕ) (most : ℤ) → Given decls terms target bits → AreBoundsOf decls target found
     → ((other : ℕ) → other < points_in found → IsOpen terms bits target.header_bits (point_at other found) → worth terms (point_at other found) ≤ℤ most)
-    → (other : List ℕ) → IsWithin other found → Feasible decls target other [] → utility decls other ≤ℤ most
-best_of_all decls terms target bits found most given best other within good =
-    let at = numbered other found within in
+    → (other : List ℕ) (placement : List At) → Feasible decls target other placement → utility decls other ≤ℤ most
+best_of_all decls terms target bits found most given are best other placement good =
+    let at = numbered other found (feasible_within decls target found other placement are good) in
     let P : List ℕ → Type 0 = λ z. IsOpen terms bits target.header_bits z → worth terms z ≤ℤ most in
     let here = subst P at.2 (best at.0 at.1) in
-    let less = here (opened decls terms target bits given other good) in
+    let less = here (opened decls terms target bits given other placement good) in
     subst (λ (z : ℤ). z ≤ℤ most) (given.terms_are.worth_is other) less
 
-none_of_all : (decls : List PlainDecl) (terms : Terms) (target : Target) (bits : HeaderUse) (found : List ℕ) → Given decls terms target bits → ((number : ℕ) → number < points_in found → IsOpen terms bits target.header_bits (point_at number found) → ⊥)
-    → (other : List ℕ) → IsWithin other found → Feasible decls target other [] → ⊥
-none_of_all decls terms target bits found given none other within good =
-    let at = numbered other found within in
+none_of_all : (decls : List PlainDecl) (terms : Terms) (target : Target) (bits : HeaderUse) (found : List ℕ) → Given decls terms target bits → AreBoundsOf decls target found
+    → ((number : ℕ) → number < points_in found → IsOpen terms bits target.header_bits (point_at number found) → ⊥) → Infeasible decls target
+none_of_all decls terms target bits found given are none other placement good =
+    let at = numbered other found (feasible_within decls target found other placement are good) in
     let P : List ℕ → Type 0 = λ z. IsOpen terms bits target.header_bits z → ⊥ in
     let here = subst P at.2 (none at.0 at.1) in
-    here (opened decls terms target bits given other good)
+    here (opened decls terms target bits given other placement good)
 
 -- what is picked is the choice
-picked_is : (decls : List PlainDecl) (terms : Terms) (target : Target) (bits : HeaderUse) (found : List ℕ) (made : Choice) → Given decls terms target bits → AreBoundsOf decls terms target found → IsPicked terms bits target.header_bits found made
-    → IsChoice decls terms target made
+picked_is : (decls : List PlainDecl) (terms : Terms) (target : Target) (bits : HeaderUse) (found : List ℕ) (made : Choice) → Given decls terms target bits → AreBoundsOf decls target found → IsPicked terms bits target.header_bits found made
+    → IsChoice decls target made
 picked_is decls terms target bits found (choice.Best sizes most) given are picked =
     let at = picked.1 in
     let best = at.2 in
-    let sized : length (point_at at.0 found) ≡ length (symbols_of decls) = length_point at.0 found ∙ are.dense in
-    let P : List ℕ → Type 0 = λ z. AreBest decls target found z most in (
-      found,
-      are,
-      picked.0,
-      subst P (sym at.1) record {
-        feasible = feasible decls terms target bits given (point_at at.0 found) sized best.point.0;
-        within = point_within at.0 found;
-        worth_is = best.point.1 ∙ given.terms_are.worth_is (point_at at.0 found);
-        best = best_of_all decls terms target bits found most given best.best;
+    let point : List ℕ = point_at at.0 found in
+    let sized : length point ≡ length (symbols_of decls) = length_point at.0 found ∙ are.dense in
+    let value : most ≡ utility decls point = best.point.1 ∙ given.terms_are.worth_is point in
+    let P : List ℕ → Type 0 = λ z. Best decls target z [] × (most ≡ utility decls z) in
+    let chosen = subst P (sym at.1) (
+      record {
+        feasible = feasible decls terms target bits given point sized best.point.0;
+        most = λ other placement good. subst (λ (z : ℤ). utility decls other ≤ℤ z) value (best_of_all decls terms target bits found most given are best.best other placement good);
       },
-    )
-picked_is decls terms target bits found choice.Infeasible given are picked = (found, are, picked.0, none_of_all decls terms target bits found given picked.1)
+      value,
+    ) in
+    (record { bounds = found; are_bounds = are; listable = picked.0 }, chosen.0, chosen.1)
+picked_is decls terms target bits found choice.Infeasible given are picked = (record { bounds = found; are_bounds = are; listable = picked.0 }, none_of_all decls terms target bits found given are picked.1)
 picked_is decls terms target bits found (choice.Unbounded symbol) given are picked = absurd picked
-picked_is decls terms target bits found choice.TooMany given are picked = (found, are, picked)
+picked_is decls terms target bits found choice.TooMany given are picked = record { bounds = found; are_bounds = are; many = picked }
 
 pub chosen : (decls : List PlainDecl) (terms : Terms) (target : Target) (bits : HeaderUse) (found : List ℕ) {E : Type 0} (result : Result Choice E) → Given decls terms target bits → length found ≡ length terms.symbols
     → ((place : ℕ) → place < length terms.symbols → bound_at terms.rows (λ place. get_or bits.symbol_bits.items place 0) target.header_bits place ≡ Some (get_or found place 0))
-    → IfOk result (λ made. IsPicked terms bits target.header_bits found made) → IfOk result (λ made. IsChoice decls terms target made)
+    → IfOk result (λ made. IsPicked terms bits target.header_bits found made) → IfOk result (λ made. IsChoice decls target made)
 chosen decls terms target bits found (Ok made) given dense each picked = picked_is decls terms target bits found made given (bounds_are decls terms target bits found given dense each) picked
 chosen decls terms target bits found (Err e) given dense each picked = tt

@@ -1,7 +1,11 @@
+pub mod AnswerLaws
 pub mod BoundLaws
 pub mod ChoiceLaws
+pub mod EndLaws
 pub mod HeaderLaws
 pub mod LineLaws
 pub mod ListingLaws
 pub mod ShowLaws
+pub mod SourceLaws
 pub mod UseLaws
+pub mod WithinLaws

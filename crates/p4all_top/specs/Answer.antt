@@ -1,14 +1,16 @@
--- What `size` answers: the lines that it prints and the status that it ends with; this project's own.
-use Rattle.std.specs.Prelude.{◌≡◌, ℕ, ℤ, pos, ◌⊎◌, List, [], ◌∷◌, codes}
-use Rattle.elastic_ast.specs.Tree.{PlainProgram}
+-- What `size` answers: the lines that it prints and the status that it ends with, with the cause of each; this project's
+-- own.
+use Rattle.std.specs.Prelude.{◌≡◌, ℕ, ℤ, pos, ◌⊎◌, List, [], ◌∷◌, codes, slice_get, Some}
+use Rattle.elastic_ast.specs.Tree.{PlainProgram, Name}
 use Rattle.elastic_ast.specs.Sums.{symbols_of, utility}
 use Rattle.elx_io.specs.Lines.{with_word, with_number, with_end}
 use Rattle.target_desc.specs.declared.target.Target.{Target}
-use Rattle.target_desc.specs.TargetText.{IsTargetText}
 use Rattle.p4all_top.specs.declared.status.Status.{Status}
 use Rattle.p4all_top.specs.declared.status.Status.TheVariants as status
-use Rattle.p4all_top.specs.Feasible.{Feasible}
-use Rattle.p4all_top.specs.Source.{IsProgram}
+use Rattle.p4all_top.specs.Choice.{IsBounded, IsTooLarge, IsUnbounded}
+use Rattle.p4all_top.specs.Description.{IsDescription, IsNoDescription}
+use Rattle.p4all_top.specs.Optimum.{Best, Infeasible}
+use Rattle.p4all_top.specs.Source.{IsSource, IsNoSource}
 
 -- a text and the line `size NAME VALUE`
 abbrev pub with_size : List ℕ → List ℕ → ℕ → List ℕ
@@ -37,34 +39,57 @@ unbounded_text symbol = with_end (with_word (with_word (with_word [] (codes "ref
 abbrev pub notyet_text : List ℕ
 notyet_text = with_end (with_word (with_word [] (codes "refused")) (codes "notyet"))
 
--- the lines show feasible sizes of a program on a target, and the utility that is theirs
-pub record ShowsSizes (decls : PlainProgram) (on : Target) (printed : List ℕ) : Type 0 where
+-- the lines show the best sizes of a program on a target, and the utility that is theirs
+pub record ShowsBest (decls : PlainProgram) (on : Target) (printed : List ℕ) : Type 0 where
+  pub bounded : IsBounded decls on
   pub sizes : List ℕ
-  pub feasible : Feasible decls on sizes []
+  pub best : Best decls on sizes []
   pub lines : printed ≡ sizes_text (symbols_of decls) sizes (utility decls sizes)
 
--- the lines refuse what isn't built yet, or a symbol without a bound
-abbrev pub Refuses : List ℕ → Type 0
-Refuses printed = (printed ≡ notyet_text) ⊎ ((symbol : List ℕ) × (printed ≡ unbounded_text symbol))
+-- the line says that no sizes are feasible, and none are
+pub record ShowsNone (decls : PlainProgram) (on : Target) (printed : List ℕ) : Type 0 where
+  pub bounded : IsBounded decls on
+  pub none : Infeasible decls on
+  pub lines : printed ≡ infeasible_text
+
+-- the line names the first symbol that has no bound
+pub record ShowsUnbounded (decls : PlainProgram) (on : Target) (printed : List ℕ) : Type 0 where
+  pub place : ℕ
+  pub unbounded : IsUnbounded decls on place
+  pub symbol : Name
+  pub named : slice_get (symbols_of decls) place ≡ Some symbol
+  pub lines : printed ≡ unbounded_text symbol
+
+-- the line gives up, since too many sizes are within the bounds
+pub record ShowsTooLarge (decls : PlainProgram) (on : Target) (printed : List ℕ) : Type 0 where
+  pub many : IsTooLarge decls on
+  pub lines : printed ≡ notyet_text
 
 -- what is printed for a program and a target, by the status that the run ends with
 abbrev pub IsAnswerFor : PlainProgram → Target → Status → List ℕ → Type 0
-IsAnswerFor decls on status.Done printed = ShowsSizes decls on printed
-IsAnswerFor decls on status.Infeasible printed = printed ≡ infeasible_text
-IsAnswerFor decls on status.Refused printed = Refuses printed
+IsAnswerFor decls on status.Done printed = ShowsBest decls on printed
+IsAnswerFor decls on status.Infeasible printed = ShowsNone decls on printed
+IsAnswerFor decls on status.Refused printed = ShowsUnbounded decls on printed ⊎ ShowsTooLarge decls on printed
 IsAnswerFor decls on _ printed = ⊥
 
--- the lines show feasible sizes of the program that the source spells, on the target that is described
-pub record ShowsSizesOf (source target printed : List ℕ) : Type 0 where
+-- source and description are taken, and the answer is that for their program and target
+pub record AnswersBoth (source target : List ℕ) (ended : Status) (printed : List ℕ) : Type 0 where
   pub decls : PlainProgram
   pub on : Target
-  pub program : IsProgram source decls
-  pub description : IsTargetText target on
-  pub shows : ShowsSizes decls on printed
+  pub source_is : IsSource source decls
+  pub target_is : IsDescription target on
+  pub answer : IsAnswerFor decls on ended printed
+
+-- the source isn't taken, or it is and the description isn't
+abbrev pub IsNotTaken : List ℕ → List ℕ → Type 0
+IsNotTaken source target = IsNoSource source ⊎ ((decls : PlainProgram) × IsSource source decls × IsNoDescription target)
+
+-- the line gives up, since the source or the description isn't taken
+pub record RefusesText (source target : List ℕ) (ended : Status) (printed : List ℕ) : Type 0 where
+  pub cause : IsNotTaken source target
+  pub status_is : ended ≡ status.Refused
+  pub lines : printed ≡ notyet_text
 
 -- what `size` prints for the bytes of a source and of a target's description, by the status that it ends with
 abbrev pub IsSizeAnswer : List ℕ → List ℕ → Status → List ℕ → Type 0
-IsSizeAnswer source target status.Done printed = ShowsSizesOf source target printed
-IsSizeAnswer source target status.Infeasible printed = printed ≡ infeasible_text
-IsSizeAnswer source target status.Refused printed = Refuses printed
-IsSizeAnswer source target _ printed = ⊥
+IsSizeAnswer source target ended printed = AnswersBoth source target ended printed ⊎ RefusesText source target ended printed

@@ -1,18 +1,15 @@
 -- The bounds of sizes that two rules give; this project's own. A row without negative coefficients bounds each symbol that
 -- it has, and the header bits bound each symbol that is the size of arrays.
-use Rattle.std.specs.Prelude.{ℕ, zero, suc, ◌/◌, Bool, true, false, List, [], ◌∷◌, min, slice_index_or, Option, Some, None, ℤ, pos, negsuc, if◌then◌else◌}
+use Rattle.std.specs.Prelude.{ℕ, zero, suc, ◌/◌, List, [], ◌∷◌, min, slice_index_or, Option, Some, None, ℤ, pos, negsuc, if◌then◌else◌}
 use Rattle.std.specs.List.{list_all}
 use Rattle.elastic_ast.specs.declared.flat.Linear.{Linear}
+use Rattle.size_terms.specs.Rows.{is_whole}
 
 -- the lesser of two bounds, where a bound may be missing
 abbrev pub lesser : Option ℕ → Option ℕ → Option ℕ
 lesser None other = other
 lesser (Some bound) None = Some bound
 lesser (Some bound) (Some other) = Some (min bound other)
-
-abbrev pub is_whole : ℤ → Bool
-is_whole (pos by) = true
-is_whole (negsuc by) = false
 
 -- the greatest size of which this many times are at most a number, and 0 where that number is negative
 abbrev pub most_of : ℤ → ℤ → Option ℕ

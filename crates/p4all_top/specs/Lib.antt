@@ -4,11 +4,15 @@ pub mod Bounding
 pub mod Choice
 pub mod Codes
 pub mod Commands
+pub mod Description
+pub mod Ending
 pub mod Feasible
 pub mod HeaderBits
 pub mod HeaderUse
 pub mod Listing
+pub mod Optimum
 pub mod Picking
+pub mod Reading
 pub mod Shown
 pub mod Source
 pub mod Stopping

@@ -1,10 +1,15 @@
 //! The bounds of sizes.
 
-ghost use Rattle.std.specs.Prelude.{◌≡◌, ℕ, ◌≤◌, ◌<◌, ◌-◌, ◌^◌, length, All, IfOk, List, slice_index, slice_index_or, None, pos, unsigned_abs};
+ghost use Rattle.std.specs.Prelude.{◌≡◌, ℕ, ◌≤◌, ◌<◌, ◌-◌, ◌^◌, length, All, IfOk, List, slice_index, slice_index_or, Some, None, pos, unsigned_abs};
 ghost use Rattle.std.specs.List.{list_all};
-ghost use Rattle.size_terms.specs.Rows.{IsShort, AreShort};
-ghost use Rattle.p4all_top.specs.Bound.{lesser as lesser_of, is_whole as is_whole_of, most_of, row_bound, rows_bound, bits_bound as bits_bound_of, bound_at};
+ghost use Rattle.elastic_ast.specs.declared.flat.At.{At};
+ghost use Rattle.elastic_ast.specs.Tree.{PlainDecl};
+ghost use Rattle.size_terms.specs.Rows.{is_whole as is_whole_of, IsShort, AreShort};
+ghost use Rattle.target_desc.specs.declared.target.Target.{Target};
+ghost use Rattle.p4all_top.specs.Bound.{lesser as lesser_of, most_of, row_bound, rows_bound, bits_bound as bits_bound_of, bound_at};
 ghost use Rattle.p4all_top.specs.Bounding.{AreLowered, AreBounds};
+ghost use Rattle.p4all_top.specs.Choice.{bound_of};
+ghost use Rattle.p4all_top.specs.Feasible.{Feasible};
 
 use crate::header::HeaderUse;
 use elastic_ast::{Linear, Terms};
@@ -16,6 +21,11 @@ pub enum Bounds {
     All(Vec<u64>),
     Missing { symbol: usize },
 }
+
+/// No feasible size is above its bound. It holds of the definitions, and takes no step.
+pub fn feasible_sizes_have_bounds()
+    ensures { (decls : List PlainDecl) (target : Target) (sizes : List ℕ) (placement : List At) → Feasible decls target sizes placement → (place bound : ℕ) → bound_of decls target place ≡ Some bound → slice_index sizes place ≤ bound }
+{}
 
 /// The lesser of two bounds, where a bound may be missing.
 fn lesser(bound: Option<u64>, other: Option<u64>) -> Option<u64>

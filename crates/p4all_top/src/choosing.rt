@@ -20,7 +20,7 @@ use width_check::Checked;
 pub enum Choice {
     /// Feasible sizes of the greatest utility, with that utility.
     Best { sizes: Sizes, utility: i128 },
-    /// No sizes within the bounds are feasible.
+    /// No sizes are feasible.
     Infeasible,
     /// No rule bounds the size of this symbol, which is the first such. Symbols are counted from 0.
     Unbounded { symbol: usize },
@@ -54,8 +54,8 @@ fn best_within(
     }
 }
 
-/// The best sizes of a program on a target: of all sizes within the bounds that the rows and the header bits give, feasible
-/// ones of the greatest utility.
+/// The best sizes of a program on a target: feasible ones of the greatest utility. They are looked for within the bounds that
+/// the rows and the header bits give, beyond which nothing is feasible.
 ///
 /// `terms` are those that `size_terms::terms` gives of the program. The one error is want of memory.
 pub fn choose(
@@ -66,7 +66,7 @@ pub fn choose(
 ) -> Result<Choice, AllocError>
     requires terms { AreTermsOf (seen_decls checked.now) terms.now }
     requires in_range { IsInRange target.now }
-    ensures { IfOk result (λ choice. IsChoice (seen_decls checked.now) terms.now target.now choice) }
+    ensures { IfOk result (IsChoice (seen_decls checked.now) target.now) }
 {
     let limit = target.header_bits;
     let bits = header_use(alloc, checked, terms.symbols.as_slice())?;

@@ -2,6 +2,7 @@
 
 ghost use Rattle.std.specs.Prelude.{◌≡◌, ◌≤◌, ◌^◌, length, IfOk, IfSome};
 ghost use Rattle.elx_io.specs.Files.{bytes_at};
+ghost use Rattle.p4all_top.specs.Reading.{IsFileRead};
 ghost use Rattle.p4all_top.specs.Stopping.{StopCounts};
 
 use crate::stopping::Stop;
@@ -18,7 +19,7 @@ pub fn read_file<S: Shelf>(
 ) -> Result<Option<Items<u8>>, Stop>
     requires { most ≤ 2 ^ 62 }
     ensures length { IfOk result (λ found. IfSome found (λ bytes. length bytes ≤ most)) }
-    ensures bytes { IfOk result (λ found. IfSome found (λ bytes. IfSome (S.holds shelf.old) (λ files. bytes ≡ bytes_at files name.now))) }
+    ensures found { IfOk result (λ found. IfSome (S.holds shelf.old) (λ files. IsFileRead most (bytes_at files name.now) found)) }
     ensures kept { S.holds shelf.new ≡ S.holds shelf.old }
     ensures leads { S.read_leads shelf.old name.now shelf.new }
     ensures counts { StopCounts (S.faults shelf.old) (S.faults shelf.new) result }

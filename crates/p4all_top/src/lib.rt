@@ -18,6 +18,7 @@ mod status;
 mod stopping;
 mod top;
 
+pub use bounds::feasible_sizes_have_bounds;
 pub use listing::points_have_numbers;
 pub use size_command::do_size;
 pub use status::{Status, code};

@@ -1,15 +1,15 @@
 //! The command `size`.
 
 ghost use Rattle.std.specs.Prelude.{◌≡◌, ◌≢◌, ◌↔◌, length, IfOk, IfSome, option_map, OnOk, ◌⊎◌};
-ghost use Rattle.elastic_ast.specs.Seen.{seen_decls};
 ghost use Rattle.elx_io.specs.Files.{bytes_at};
 ghost use Rattle.elx_io.specs.Counts.{Rose};
 ghost use Rattle.target_desc.specs.InRange.{IsInRange};
-ghost use Rattle.target_desc.specs.TargetText.{IsTargetText};
-ghost use Rattle.p4all_top.specs.Source.{IsProgram, HasNoProgram};
+ghost use Rattle.p4all_top.specs.Description.{IsDescriptionFound};
+ghost use Rattle.p4all_top.specs.Source.{IsSourceFound, IsNoSource};
 ghost use Rattle.p4all_top.specs.Stopping.{StopCounts, stopped};
 ghost use Rattle.p4all_top.specs.Answer.{IsSizeAnswer};
 ghost use Rattle.p4all_top.specs.Commands.{IsEnd, IsSizeEnd, IsShown, StatusCounts, TellsSizes, text_at, texts_of};
+ghost use Rattle.p4all_top.specs.Ending.{EndsBy};
 
 use crate::files::read_file;
 use crate::reading::{MOST_SOURCE, MOST_TARGET, program_of, target_of};
@@ -21,9 +21,9 @@ use std::alloc::{AllocError, Global};
 use target_desc::Target;
 use width_check::Checked;
 
-/// The program of a file, or None where the file has none that can be taken.
+/// The program of a source, or None where the source isn't taken.
 fn read_program<S: Shelf>(alloc: Global, shelf: &mut S, name: &str) -> Result<Option<Checked>, Stop>
-    ensures found { IfOk result (λ found. IfSome found (λ checked. IfSome (S.holds shelf.old) (λ files. IsProgram (bytes_at files name.now) (seen_decls checked)))) }
+    ensures found { IfOk result (λ found. IfSome (S.holds shelf.old) (λ files. IsSourceFound (bytes_at files name.now) found)) }
     ensures kept { S.holds shelf.new ≡ S.holds shelf.old }
     ensures leads { S.read_leads shelf.old name.now shelf.new }
     ensures counts { StopCounts (S.faults shelf.old) (S.faults shelf.new) result }
@@ -39,9 +39,9 @@ fn read_program<S: Shelf>(alloc: Global, shelf: &mut S, name: &str) -> Result<Op
     }
 }
 
-/// The target of a file, or None where the file describes none.
+/// The target of a description, or None where the description isn't taken.
 fn read_target<S: Shelf>(alloc: Global, shelf: &mut S, name: &str) -> Result<Option<Target>, Stop>
-    ensures found { IfOk result (λ found. IfSome found (λ target. IfSome (S.holds shelf.old) (λ files. IsTargetText (bytes_at files name.now) target))) }
+    ensures found { IfOk result (λ found. IfSome (S.holds shelf.old) (λ files. IsDescriptionFound (bytes_at files name.now) found)) }
     ensures in_range { IfOk result (λ found. IfSome found IsInRange) }
     ensures kept { S.holds shelf.new ≡ S.holds shelf.old }
     ensures counts { StopCounts (S.faults shelf.old) (S.faults shelf.new) result }
@@ -61,7 +61,7 @@ fn read_target<S: Shelf>(alloc: Global, shelf: &mut S, name: &str) -> Result<Opt
 fn find<S: Shelf>(alloc: Global, shelf: &mut S, source: &str, target: &str) -> Result<Answer, Stop>
     ensures answer { IfOk result (λ answer. IfSome (S.holds shelf.old) (λ files. IsSizeAnswer (bytes_at files source.now) (bytes_at files target.now) answer.status answer.lines)) }
     ensures ended { IfOk result (λ answer. IsSizeEnd answer.status) }
-    ensures order { IfSome (S.holds shelf.old) (λ files. HasNoProgram (bytes_at files source.now) → S.read_leads shelf.old source.now shelf.new) }
+    ensures order { IfSome (S.holds shelf.old) (λ files. IsNoSource (bytes_at files source.now) → S.read_leads shelf.old source.now shelf.new) }
     ensures kept { S.holds shelf.new ≡ S.holds shelf.old }
     ensures counts { StopCounts (S.faults shelf.old) (S.faults shelf.new) result }
 {
@@ -113,7 +113,8 @@ pub fn do_size<S: Shelf, O: Sink>(
     ensures words { (result ≡ Status.Words) ↔ (length words.now ≢ 2) }
     ensures quiet { result ≡ Status.Words → O.written out.new ≡ O.written out.old }
     ensures tells { TellsSizes (texts_of words.now) (S.holds shelf.old) result (O.written out.old) (O.written out.new) }
-    ensures order { result ≢ Status.Words → IfSome (S.holds shelf.old) (λ files. HasNoProgram (bytes_at files (text_at (texts_of words.now) 0)) → S.read_leads shelf.old (text_at (texts_of words.now) 0) shelf.new) }
+    ensures ends { result ≢ Status.Words → IfSome (S.holds shelf.old) (λ files. EndsBy (bytes_at files (text_at (texts_of words.now) 0)) (bytes_at files (text_at (texts_of words.now) 1)) result) }
+    ensures order { result ≢ Status.Words → IfSome (S.holds shelf.old) (λ files. IsNoSource (bytes_at files (text_at (texts_of words.now) 0)) → S.read_leads shelf.old (text_at (texts_of words.now) 0) shelf.new) }
     ensures kept { S.holds shelf.new ≡ S.holds shelf.old }
     ensures fault { result ≡ Status.Fault → Rose (S.faults shelf.old) (S.faults shelf.new) ⊎ Rose (O.faults out.old) (O.faults out.new) }
     ensures shelf_quiet { IsEnd result → S.faults shelf.new ≡ S.faults shelf.old }

@@ -38,44 +38,71 @@ fn run(
     Ok((status, out))
 }
 
+/// A source, the header bits of its target, and what `size` ends with and prints.
+const ROWS: [(&str, u32, Status, &str); 12] = [
+    (
+        ROWS_AND_COLS,
+        64,
+        Status::Done,
+        "size rows 3\nsize cols 100\nutility 130\n",
+    ),
+    (
+        ROWS_AND_COLS,
+        32,
+        Status::Done,
+        "size rows 2\nsize cols 100\nutility 120\n",
+    ),
+    (ROWS_AND_COLS, 0, Status::Infeasible, "infeasible\n"),
+    ("maximize(7);", 64, Status::Done, "utility 7\n"),
+    ("", 64, Status::Done, "utility 0\n"),
+    (
+        "symbolic int x; assume(x >= 5 && x <= 4); maximize(x);",
+        64,
+        Status::Infeasible,
+        "infeasible\n",
+    ),
+    (
+        "symbolic int x; maximize(x);",
+        64,
+        Status::Refused,
+        "refused unbounded x\n",
+    ),
+    (
+        "symbolic int a; symbolic int b; maximize(a + b);",
+        64,
+        Status::Refused,
+        "refused unbounded a\n",
+    ),
+    (
+        "symbolic int x; symbolic int y; assume(y <= 2 && x - y <= 3); maximize(x);",
+        64,
+        Status::Refused,
+        "refused unbounded x\n",
+    ),
+    (
+        "symbolic int x; symbolic int y; assume(y <= 2 && x - y <= 3); maximize(x); \
+        struct meta_t { bit<8>[x] v; }",
+        64,
+        Status::Done,
+        "size x 5\nsize y 2\nutility 5\n",
+    ),
+    (
+        "symbolic int s; symbolic int t; assume(s <= 1000000);",
+        64,
+        Status::Refused,
+        "refused unbounded t\n",
+    ),
+    (
+        "/* one */ symbolic int s; // two\nassume(s == 0x1_0); maximize(0 - s);",
+        64,
+        Status::Done,
+        "size s 16\nutility -16\n",
+    ),
+];
+
 #[test]
 fn size_prints_the_best_sizes_or_why_there_are_none(rt: HostRuntime) -> Result<(), Fail> {
-    let rows = [
-        (
-            ROWS_AND_COLS,
-            64,
-            Status::Done,
-            "size rows 3\nsize cols 100\nutility 130\n",
-        ),
-        (
-            ROWS_AND_COLS,
-            32,
-            Status::Done,
-            "size rows 2\nsize cols 100\nutility 120\n",
-        ),
-        (ROWS_AND_COLS, 0, Status::Infeasible, "infeasible\n"),
-        ("maximize(7);", 64, Status::Done, "utility 7\n"),
-        ("", 64, Status::Done, "utility 0\n"),
-        (
-            "symbolic int x; assume(x >= 5 && x <= 4); maximize(x);",
-            64,
-            Status::Infeasible,
-            "infeasible\n",
-        ),
-        (
-            "symbolic int x; maximize(x);",
-            64,
-            Status::Refused,
-            "refused unbounded x\n",
-        ),
-        (
-            "/* one */ symbolic int s; // two\nassume(s == 0x1_0); maximize(0 - s);",
-            64,
-            Status::Done,
-            "size s 16\nutility -16\n",
-        ),
-    ];
-    for (source, header_bits, status, printed) in rows {
+    for (source, header_bits, status, printed) in ROWS {
         let target = one_stage(rt.alloc(), header_bits)?;
         let (ended, out) = run(rt.alloc(), source.as_bytes(), target.as_bytes(), &[])?;
         assert_eq!(rt; ended, status, "{source}");
@@ -98,6 +125,7 @@ fn what_is_not_built_yet_is_refused(rt: HostRuntime) -> Result<(), Fail> {
         ("maximize(x);", target.as_str()),
         ("header h_t { bit<8> v; }", target.as_str()),
         ("maximize(7);", "stages = 1\n"),
+        ("symbolic int x;", "stages = 1\n"),
     ];
     for (source, target) in rows {
         let (ended, out) = run(rt.alloc(), source.as_bytes(), target.as_bytes(), &[])?;

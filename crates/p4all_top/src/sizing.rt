@@ -4,7 +4,7 @@ ghost use Rattle.std.specs.Prelude.{◌≡◌, IfOk, length};
 ghost use Rattle.elastic_ast.specs.Seen.{seen_decls};
 ghost use Rattle.elastic_ast.specs.Sums.{symbols_of};
 ghost use Rattle.target_desc.specs.InRange.{IsInRange};
-ghost use Rattle.p4all_top.specs.Answer.{IsAnswerFor, Refuses, sizes_text, infeasible_text};
+ghost use Rattle.p4all_top.specs.Answer.{IsAnswerFor, sizes_text, infeasible_text, unbounded_text, notyet_text};
 ghost use Rattle.p4all_top.specs.Choice.{IsChoice, AreTermsOf};
 ghost use Rattle.p4all_top.specs.Shown.{FitsSymbols, ShowsChoice};
 
@@ -29,7 +29,7 @@ pub struct Answer {
 /// The refusal of what isn't built yet.
 pub fn not_yet(alloc: Global) -> Result<Answer, AllocError>
     ensures status { IfOk result (λ answer. answer.status ≡ Status.Refused) }
-    ensures lines { IfOk result (λ answer. Refuses answer.lines) }
+    ensures lines { IfOk result (λ answer. answer.lines ≡ notyet_text) }
 {
     let lines = notyet_line(alloc)?;
     Ok(Answer {
@@ -41,7 +41,7 @@ pub fn not_yet(alloc: Global) -> Result<Answer, AllocError>
 /// The refusal of a symbol without a bound.
 fn unbounded(alloc: Global, symbol: &Name) -> Result<Answer, AllocError>
     ensures status { IfOk result (λ answer. answer.status ≡ Status.Refused) }
-    ensures lines { IfOk result (λ answer. Refuses answer.lines) }
+    ensures lines { IfOk result (λ answer. answer.lines ≡ unbounded_text symbol.now) }
 {
     let lines = unbounded_line(alloc, symbol)?;
     Ok(Answer {
@@ -88,10 +88,7 @@ fn answer_of(alloc: Global, symbols: &[Name], choice: Choice) -> Result<Answer, 
     match choice {
         Choice::Best { sizes, utility } => sized(alloc, symbols, &sizes, utility),
         Choice::Infeasible => infeasible(alloc),
-        Choice::Unbounded { symbol } => match symbols.get(symbol) {
-            Some(name) => unbounded(alloc, name),
-            None => not_yet(alloc),
-        },
+        Choice::Unbounded { symbol } => unbounded(alloc, &symbols[symbol]),
         Choice::TooMany => not_yet(alloc),
     }
 }

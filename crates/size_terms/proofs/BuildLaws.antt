@@ -135,13 +135,6 @@ take_step xs i x h e = ap (λ k. take k xs) (add-one i) ∙ by xs i x h e
     by (y ∷ ys) zero x h e = ap (λ z. z ∷ []) (sym e)
     by (y ∷ ys) (suc i) x h e = ap (λ z. y ∷ z) (by ys i x (omega arith) e)
 
-pub all_taken : {X : Type 0} (xs : List X) (i : ℕ) → length xs ≤ i → take i xs ≡ xs
-all_taken xs i h = take_all i xs h
-
--- the rest of a list of tests
-pub test_here : {X : Type 0} (p : X → Bool) (xs : List X) (i : ℕ) (x : X) → i < length xs → x ≡ get_or xs i x → list_all p (drop i xs) ≡ true → p x ≡ true
-test_here p xs i x h e inv = left (p x) (list_all p (drop (i + 1) xs)) (ap (list_all p) (sym (items_drop xs i x h e)) ∙ inv)
-
 pub test_rest : {X : Type 0} (p : X → Bool) (xs : List X) (i : ℕ) (x : X) → i < length xs → x ≡ get_or xs i x → list_all p (drop i xs) ≡ true → list_all p (drop (i + 1) xs) ≡ true
 test_rest p xs i x h e inv = right (p x) (list_all p (drop (i + 1) xs)) (ap (list_all p) (sym (items_drop xs i x h e)) ∙ inv)
 
@@ -152,21 +145,8 @@ comps_taken ds i d h e = ap comparisons (step_take ds i d h e) ∙ flat_map-appe
 comps_dropped : (ds : List Decl) (i : ℕ) (d : Decl) → i < length ds → d ≡ get_or ds i d → list_all is_short (comparisons (seen_decls (drop i ds))) ≡ (list_all is_short (comps_of (seen_decl d)) && list_all is_short (comparisons (seen_decls (drop (i + 1) ds))))
 comps_dropped ds i d h e = ap (λ z. list_all is_short (comparisons (seen_decls z))) (items_drop ds i d h e) ∙ list_all-append is_short (comps_of (seen_decl d)) (comparisons (seen_decls (drop (i + 1) ds)))
 
-pub short_here : (ds : List Decl) (i : ℕ) (d : Decl) → i < length ds → d ≡ get_or ds i d → list_all is_short (comparisons (seen_decls (drop i ds))) ≡ true → list_all is_short (comps_of (seen_decl d)) ≡ true
-short_here ds i d h e inv = left (list_all is_short (comps_of (seen_decl d))) (list_all is_short (comparisons (seen_decls (drop (i + 1) ds)))) (sym (comps_dropped ds i d h e) ∙ inv)
-
 pub short_rest : (ds : List Decl) (i : ℕ) (d : Decl) → i < length ds → d ≡ get_or ds i d → list_all is_short (comparisons (seen_decls (drop i ds))) ≡ true → list_all is_short (comparisons (seen_decls (drop (i + 1) ds))) ≡ true
 short_rest ds i d h e inv = right (list_all is_short (comps_of (seen_decl d))) (list_all is_short (comparisons (seen_decls (drop (i + 1) ds)))) (sym (comps_dropped ds i d h e) ∙ inv)
-
--- the symbols of the declarations
-pub symbols_step : (ds : List Decl) (i : ℕ) (d : Decl) (names new whole : List Name) → i < length ds → d ≡ get_or ds i d → new ≡ names ++ symbol_name (seen_decl d) → names ++ symbols_of (seen_decls (drop i ds)) ≡ whole → new ++ symbols_of (seen_decls (drop (i + 1) ds)) ≡ whole
-symbols_step ds i d names new whole h e a inv =
-    ap (λ z. z ++ symbols_of (seen_decls (drop (i + 1) ds))) a ∙ append_assoc names (symbol_name (seen_decl d)) (symbols_of (seen_decls (drop (i + 1) ds))) ∙ ap (λ z. names ++ symbols_of (seen_decls z)) (sym (items_drop ds i d h e)) ∙ inv
-
--- the utility of the declarations
-pub utility_found : (ds : List Decl) (i : ℕ) (d : Decl) (ts : List UtilTerm) (whole : Option (List UtilTerm)) → i < length ds → d ≡ get_or ds i d → utility_of (seen_decl d) ≡ Some ts → found utility_of (seen_decls (drop i ds)) ≡ whole → ts ≡ unwrap_or whole []
-utility_found ds i d ts whole h e u inv =
-    ap (λ o. unwrap_or (or_else o (found utility_of (seen_decls (drop (i + 1) ds)))) []) (sym u) ∙ ap (λ z. unwrap_or (found utility_of (seen_decls z)) []) (sym (items_drop ds i d h e)) ∙ ap (λ o. unwrap_or o []) inv
 
 -- the utility term by term
 pub utils_step : (symbols : List Name) (sum new : Sum) (ts : List UtilTerm) (i : ℕ) (t : UtilTerm) (sizes : List ℕ) (whole : ℤ) → i < length ts → t ≡ get_or ts i t

@@ -86,11 +86,11 @@ dot_whole (x ∷ by) [] h = omega (arith, ints)
 dot_whole (x ∷ by) (s ∷ sizes) h = let u = product_whole s x (head_whole x by h) in let ih = dot_whole by sizes (tail_whole x by h) in omega (arith, ints, u, ih)
 
 -- each product is at most the sum
-pub row_bounds_one : (by : List ℤ) (sizes : List ℕ) (place : ℕ) → list_all is_whole by ≡ true → place < length by → length by ≡ length sizes → (pos (get_or sizes place 0) *ℤ get_or by place (pos 0)) ≤ℤ dot by sizes
-row_bounds_one [] sizes place h within dense = absurd (omega arith)
-row_bounds_one (x ∷ by) [] place h within dense = absurd (omega arith)
-row_bounds_one (x ∷ by) (s ∷ sizes) zero h within dense = let u = dot_whole by sizes (tail_whole x by h) in omega (arith, ints, u)
-row_bounds_one (x ∷ by) (s ∷ sizes) (suc place) h within dense =
+pub row_bounds_one : (by : List ℤ) (sizes : List ℕ) (place : ℕ) → list_all is_whole by ≡ true → (pos (get_or sizes place 0) *ℤ get_or by place (pos 0)) ≤ℤ dot by sizes
+row_bounds_one [] sizes place h = omega (arith, ints)
+row_bounds_one (x ∷ by) [] place h = omega (arith, ints)
+row_bounds_one (x ∷ by) (s ∷ sizes) zero h = let u = dot_whole by sizes (tail_whole x by h) in omega (arith, ints, u)
+row_bounds_one (x ∷ by) (s ∷ sizes) (suc place) h =
     let u = product_whole s x (head_whole x by h) in
-    let ih = row_bounds_one by sizes place (tail_whole x by h) (omega arith) (omega arith) in
+    let ih = row_bounds_one by sizes place (tail_whole x by h) in
     omega (arith, ints, u, ih)

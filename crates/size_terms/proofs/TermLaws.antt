@@ -93,13 +93,6 @@ worth_step symbols sum new terms i t minus sizes whole h e grown inv =
     ap (λ z. signed minus (sum_value symbols sizes z)) (items_drop terms i t h e) ∙ signed_sum minus (term_value symbols sizes t) (sum_value symbols sizes (drop (i + 1) terms)) in
     omega (arith, ints, parts, grown, inv)
 
-pub near_here : (terms : List LinTerm) (i : ℕ) (t : LinTerm) → i < length terms → t ≡ get_or terms i t → list_all is_near (drop i terms) ≡ true → is_near t ≡ true
-near_here terms i t h e inv = left (is_near t) (list_all is_near (drop (i + 1) terms)) (ap (list_all is_near) (sym (items_drop terms i t h e)) ∙ inv)
-  where
-    left : (a b : Bool) → (a && b) ≡ true → a ≡ true
-    left true b p = refl
-    left false b p = p
-
 pub near_rest : (terms : List LinTerm) (i : ℕ) (t : LinTerm) → i < length terms → t ≡ get_or terms i t → list_all is_near (drop i terms) ≡ true → list_all is_near (drop (i + 1) terms) ≡ true
 near_rest terms i t h e inv = right (is_near t) (list_all is_near (drop (i + 1) terms)) (ap (list_all is_near) (sym (items_drop terms i t h e)) ∙ inv)
   where

@@ -15,9 +15,6 @@ product_below size by h =
     let f : size * unsigned_abs by ≤ 2 ^ 64 * unsigned_abs by = grind arith in
     omega (arith, e, f)
 
-pub product_small : (size : ℕ) (by : ℤ) → size < 2 ^ 64 → unsigned_abs by ≤ 64000000000 → unsigned_abs (pos size *ℤ by) < 2 ^ 100
-product_small size by h k = let u = product_below size by h in omega (arith, u, k)
-
 -- one more product
 dot_step : (by : List ℤ) (sizes : List ℕ) (i : ℕ) → i < length by → i < length sizes → dot (drop i by) (drop i sizes) ≡ (pos (get_or sizes i 0) *ℤ get_or by i (pos 0)) +ℤ dot (drop (i + 1) by) (drop (i + 1) sizes)
 dot_step by sizes i h k =

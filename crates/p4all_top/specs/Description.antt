@@ -1,0 +1,27 @@
+-- Which texts are taken as descriptions of targets; this project's own.
+use Rattle.std.specs.Prelude.{◌<◌, ◌≤◌, ◌⊎◌, ℕ, List, length, Option, Some, None}
+use Rattle.target_desc.specs.declared.target.Target.{Target}
+use Rattle.target_desc.specs.TargetText.{IsTargetText}
+
+-- the text describes no target
+abbrev pub HasNoTarget : List ℕ → Type 0
+HasNoTarget text = (target : Target) → IsTargetText text target → ⊥
+
+-- what is found in a text: the target that it describes, or that it describes none
+abbrev pub IsTargetFound : List ℕ → Option Target → Type 0
+IsTargetFound text None = HasNoTarget text
+IsTargetFound text (Some target) = IsTargetText text target
+
+-- a description is taken: it is no longer than 65536 bytes, and describes this target
+pub record IsDescription (text : List ℕ) (target : Target) : Type 0 where
+  pub short : length text ≤ 65536
+  pub described : IsTargetText text target
+
+-- a description isn't taken: it is too long, or describes no target
+abbrev pub IsNoDescription : List ℕ → Type 0
+IsNoDescription text = (65536 < length text) ⊎ HasNoTarget text
+
+-- what is found in a description: its target, or that it isn't taken
+abbrev pub IsDescriptionFound : List ℕ → Option Target → Type 0
+IsDescriptionFound text None = IsNoDescription text
+IsDescriptionFound text (Some target) = IsDescription text target

@@ -1,0 +1,32 @@
+-- How a run of `size` must end on a source and a target's description, unless want of memory or a fault ends it; this
+-- project's own.
+use Rattle.std.specs.Prelude.{◌≡◌, ◌≤◌, ℕ, List, length}
+use Rattle.elastic_ast.specs.declared.flat.At.{At}
+use Rattle.elastic_ast.specs.Tree.{PlainProgram}
+use Rattle.target_desc.specs.declared.target.Target.{Target}
+use Rattle.p4all_top.specs.declared.status.Status.{Status}
+use Rattle.p4all_top.specs.declared.status.Status.TheVariants as status
+use Rattle.p4all_top.specs.Choice.{IsBounded, IsTooLarge, IsUnbounded}
+use Rattle.p4all_top.specs.Description.{IsDescription, IsNoDescription}
+use Rattle.p4all_top.specs.Feasible.{Feasible}
+use Rattle.p4all_top.specs.Optimum.{Infeasible}
+use Rattle.p4all_top.specs.Source.{IsProgram, IsNoSource}
+
+-- a run ends so, or for want of memory or by a fault
+abbrev pub MustEnd : Status → Status → Type 0
+MustEnd expected status.Memory = Unit {0}
+MustEnd expected status.Fault = Unit {0}
+MustEnd expected ended = ended ≡ expected
+
+-- what a program and a target make of the end
+pub record EndsOn (decls : PlainProgram) (on : Target) (ended : Status) : Type 0 where
+  pub unbounded : (place : ℕ) → IsUnbounded decls on place → MustEnd status.Refused ended
+  pub too_large : IsTooLarge decls on → MustEnd status.Refused ended
+  pub best : IsBounded decls on → (sizes : List ℕ) (placement : List At) → Feasible decls on sizes placement → MustEnd status.Done ended
+  pub none : IsBounded decls on → Infeasible decls on → MustEnd status.Infeasible ended
+
+-- what a source and a description make of it: each way to end comes wherever its cause is there
+pub record EndsBy (source target : List ℕ) (ended : Status) : Type 0 where
+  pub no_source : IsNoSource source → MustEnd status.Refused ended
+  pub no_target : IsNoDescription target → MustEnd status.Refused ended
+  pub both : (decls : PlainProgram) (on : Target) → length source ≤ 16777216 → IsProgram source decls → IsDescription target on → EndsOn decls on ended
