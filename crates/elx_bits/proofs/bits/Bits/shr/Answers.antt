@@ -1,0 +1,6 @@
+use Rattle.std.proofs.Common.{◌∙◌}
+use Rattle.elx_bits.proofs.WordLaws.{shr_past}
+use Rattle.elx_bits.proofs.bits.Bits.shr.Goals as goal
+
+pub returns-in-None-clause-value : goal.returns-in-None-clause-value
+returns-in-None-clause-value c = c.zero.ensures.value ∙ shr_past c.args.self.value c.args.self.width c.args.by.value c.args.self.fits c.in-None.ensures
