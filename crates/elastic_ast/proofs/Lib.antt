@@ -1,3 +1,5 @@
 pub mod First
 pub mod TypedLaws
 mod Rows
+pub mod LastWithLaws
+pub mod LinkedLaws

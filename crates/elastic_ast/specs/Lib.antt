@@ -6,3 +6,6 @@ pub mod Demand
 pub mod Asked
 pub mod Typed
 pub mod Sums
+pub mod LastWith
+pub mod Linked
+pub mod Fnv

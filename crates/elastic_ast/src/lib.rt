@@ -1,11 +1,14 @@
 //! The tree of an elastic program as its text spells it, and the flat forms that the compiler works on.
 #![tactic(auto)]
 
+mod chains;
 mod declarations;
 mod flat;
+mod key_hash;
 mod rule;
 mod statements;
 
+pub use chains::Chains;
 pub use declarations::{
     Action, Comp, Decl, Entry, Field, Key, Keyset, LinTerm, Local, Next, Param, Program, Rel,
     State, Table, UtilTerm,
@@ -14,5 +17,6 @@ pub use flat::{
     At, Cells, Linear, Lit, Location, Out, Packet, Placement, Sizes, Steps, Terms, Unit, Units,
     Work,
 };
+pub use key_hash::{HASH_START, hash_bytes, hash_number};
 pub use rule::Rule;
 pub use statements::{Amount, Expr, Lval, RegRef, Stmt};

@@ -1,0 +1,12 @@
+-- The last place of a number in a list of numbers. This project's own.
+use Rattle.std.specs.Prelude.{ℕ, ◌+◌, ◌==◌, if◌then◌else◌, Bool, List, [], ◌∷◌, Option, Some, None}
+
+-- the last place in a list, from that in the rest of it and from whether the first one will do
+abbrev pub after_first : Bool → Option ℕ → Option ℕ
+after_first here (Some place) = Some (place + 1)
+after_first here None = if here then Some 0 else None
+
+-- the greatest place at which the list has this number, and None where it doesn't have it
+abbrev pub last_with : ℕ → List ℕ → Option ℕ
+last_with n [] = None
+last_with n (x ∷ xs) = after_first (x == n) (last_with n xs)

@@ -1,0 +1,128 @@
+//! An index over a list of hashes, by which things with a key are found in expected constant time and without memory.
+
+ghost use Rattle.std.specs.Prelude.{◌≡◌, ◌<◌, [], ◌∷◌, ◌++◌, length, take, slice_index, OnOk, OnErr};
+ghost use Rattle.elastic_ast.specs.LastWith.{last_with};
+
+use std::alloc::{AllocError, Global};
+use std::collections::HashMap;
+use std::marker::Model;
+
+/// How many places there can be: their numbers are kept in 32 bits.
+const MOST_PLACES: usize = 0x1_0000_0000;
+
+/// The hash at a place, and the place before it with the same hash.
+#[derive(Clone, Copy, Debug)]
+struct Link {
+    hash: u64,
+    before: Option<u32>,
+}
+
+/// A list of hashes that tells the places of each hash, from the last one down. A contract sees it as the list.
+#[derive(Drop)]
+pub struct Chains {
+    heads: HashMap<u64, u32>,
+    links: Vec<Link>,
+}
+
+impl Model for Chains {
+    ghost use Rattle.std.specs.Prelude.{List, ℕ, nat_eq};
+    ghost use Rattle.std.specs.HashMap.{get};
+
+    ghost Value = { List ℕ };
+
+    ghost use Rattle.elastic_ast.specs.Linked.{hashes, Linked};
+
+    ghost view = { λ chains. hashes chains.links.items };
+
+    ghost invariant = { λ chains. Linked (λ hash. get nat_eq chains.heads hash) chains.links.items };
+}
+
+impl Chains {
+    /// The empty list. It takes no memory.
+    pub fn new(alloc: Global) -> Chains
+        ensures { result ≡ [] }
+    {
+        Chains {
+            heads: HashMap::new(alloc),
+            links: Vec::new(alloc),
+        }
+    }
+
+    /// Appends a hash. For want of memory the list stays; more than 2 to the 32 places count as want of memory.
+    pub fn push(&mut self, hash: u64) -> Result<(), AllocError>
+        ensures ok { OnOk result (self.new ≡ self.old ++ hash ∷ []) }
+        ensures err { OnErr result (self.new ≡ self.old) }
+    {
+        let place = self.links.len();
+        if place >= MOST_PLACES {
+            return Err(AllocError);
+        }
+        self.links.reserve(1)?;
+        let before = self.heads.get(&hash).copied();
+        self.heads.insert(hash, place as u32)?;
+        self.links.push_reserved(Link { hash, before });
+        Ok(())
+    }
+
+    /// How many hashes there are.
+    pub fn len(&self) -> usize
+        ensures { result ≡ length self.now }
+    {
+        self.links.len()
+    }
+
+    /// The greatest place with this hash.
+    pub fn last(&self, hash: u64) -> Option<usize>
+        ensures { result ≡ last_with hash self.now }
+    {
+        match self.heads.get(&hash) {
+            Some(place) => Some(*place as usize),
+            None => None,
+        }
+    }
+
+    /// The greatest place below this one with the same hash.
+    pub fn before(&self, place: usize) -> Option<usize>
+        requires { place < length self.now }
+        ensures { result ≡ last_with (slice_index self.now place) (take place self.now) }
+    {
+        match self.links[place].before {
+            Some(before) => Some(before as usize),
+            None => None,
+        }
+    }
+}
+
+#[cfg(test)]
+mod tests {
+    use super::*;
+    use std::process::Abort;
+    use std::test::Fail;
+
+    /// The places that the index tells of a hash, from the last one down, and then None. At most as many as `want` has.
+    fn told(rt: &impl Abort, chains: &Chains, hash: u64, want: &[Option<usize>]) {
+        let mut next = chains.last(hash);
+        for place in want {
+            assert_eq!(rt; next, *place, "{hash}");
+            next = match next {
+                Some(place) if place < chains.len() => chains.before(place),
+                _ => None,
+            };
+        }
+    }
+
+    #[test]
+    fn the_places_of_a_hash_come_from_the_last_down(rt: HostRuntime) -> Result<(), Fail> {
+        let mut chains = Chains::new(rt.alloc());
+        assert_eq!(rt; chains.last(7), None);
+        for hash in [7, 0, 7, u64::MAX, 0, 7] {
+            chains.push(hash)?;
+        }
+        assert_eq!(rt; chains.len(), 6);
+        told(&rt, &chains, 7, &[Some(5), Some(2), Some(0), None]);
+        told(&rt, &chains, 0, &[Some(4), Some(1), None]);
+        told(&rt, &chains, u64::MAX, &[Some(3), None]);
+        told(&rt, &chains, 8, &[None]);
+        Ok(())
+    }
+}
