@@ -1,5 +1,5 @@
 -- The last place of a number: one more number at the end, and what the answer says of each place.
-use Rattle.std.proofs.Common.{◌≡◌, ◌≢◌, ◌==◌, ◌<◌, ℕ, zero, suc, ◌+◌, Bool, true, false, List, [], ◌∷◌, ◌++◌, length, get_or, Option, Some, None, refl, sym, ap, subst, ◌∙◌, arith, true≢false, eq-eqb}
+use Rattle.std.proofs.Common.{◌≡◌, ◌≢◌, ◌==◌, ◌<◌, ◌≤◌, ℕ, zero, suc, ◌+◌, Bool, true, false, List, [], ◌∷◌, ◌++◌, length, get_or, Option, Some, None, refl, sym, ap, subst, ◌∙◌, arith, true≢false, eq-eqb}
 use Rattle.std.proofs.lemmas.Bool.{eqb-true}
 use Rattle.std.specs.Prelude.{if◌then◌else◌}
 use Rattle.elastic_ast.specs.LastWith.{last_with, after_first}
@@ -51,3 +51,7 @@ found n (x ∷ xs) p h = by (x == n) (last_with n xs) refl refl h (found n xs)
     by b (Some q) e f g ih = let at : suc q ≡ p = let one : q + 1 ≡ p = cc in omega arith in subst (λ z. IsLast n (x ∷ xs) z) at (moved n x xs q (ih q f))
     by true None e f g ih = let at : 0 ≡ p = cc in subst (λ z. IsLast n (x ∷ xs) z) at (at_first n x xs e (absent n xs f))
     by false None e f g ih = cc
+
+-- every place with the number is at or below the last one
+pub at_most : (n : ℕ) (xs : List ℕ) (p k : ℕ) → IsLast n xs p → k < length xs → get_or xs k 0 ≡ n → k ≤ p
+at_most n xs p k l lt same = let no : p < k → ⊥ = λ gt. l.above k gt lt same in omega arith

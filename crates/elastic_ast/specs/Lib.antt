@@ -9,3 +9,7 @@ pub mod Sums
 pub mod LastWith
 pub mod Linked
 pub mod Fnv
+pub mod RegisterLists
+pub mod KeyHash
+pub mod BitWords
+pub mod KeptRegisters

@@ -5,6 +5,7 @@ mod chains;
 mod declarations;
 mod flat;
 mod key_hash;
+mod registers;
 mod rule;
 mod statements;
 
@@ -18,5 +19,6 @@ pub use flat::{
     Work,
 };
 pub use key_hash::{HASH_START, hash_bytes, hash_number};
+pub use registers::Registers;
 pub use rule::Rule;
 pub use statements::{Amount, Expr, Lval, RegRef, Stmt};

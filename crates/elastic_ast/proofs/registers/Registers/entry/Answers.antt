@@ -1,0 +1,21 @@
+use Rattle.std.proofs.Common.{◌≡◌, ◌<◌, length, arith}
+use Rattle.elastic_ast.proofs.KeptLaws.{held_at, is_register}
+use Rattle.elastic_ast.proofs.registers.Registers.entry.Goals as goal
+
+pub overflow_cast-result : goal.overflow_cast-result
+overflow_cast-result c =
+    let within : c.args.place < length c.self.inside.list.items = omega (arith, c.self.inside.list.ok) in
+    let is = is_register _ _ _ _ c.self.invariant within c.index-held.ensures in
+    omega (arith, is.few, c.index-held.result.now.cells.ok)
+
+pub returns-clause-entry : goal.returns-clause-entry
+returns-clause-entry c =
+    let within : c.args.place < length c.self.inside.list.items = omega (arith, c.self.inside.list.ok) in
+    let many : length c.index-held.result.now.cells.items ≡ c.len-2.result = omega (arith, c.index-held.result.now.cells.ok) in
+    rw (← c.self.view_is, held_at _ _ _ within c.index-held.ensures, many)
+
+pub returns-clause-width : goal.returns-clause-width
+returns-clause-width c =
+    let within : c.args.place < length c.self.inside.list.items = omega (arith, c.self.inside.list.ok) in
+    let is = is_register _ _ _ _ c.self.invariant within c.index-held.ensures in
+    (is.positive, is.within)
