@@ -112,10 +112,12 @@ impl Registers {
         None
     }
 
-    /// The name, the index, the width and the number of cells of the register at a place.
+    /// The name, the index, the width and the number of cells of the register at a place, which is the only one with this
+    /// name and index.
     pub fn entry(&self, place: usize) -> Option<(&Name, Option<u32>, u8, u32)>
         ensures entry { option_map (λ e. (let x : Entry = (e.0.now, e.1, e.2, e.3) in x)) result ≡ option_map entry_of (slice_get self.now place) }
         ensures width { IfSome result (λ e. (1 ≤ e.2) × (e.2 ≤ 128)) }
+        ensures only { IfSome result (λ e. register_at self.now e.0.now e.1 ≡ Some place) }
     {
         if place >= self.list.len() {
             return None;
@@ -196,7 +198,6 @@ fn key_hash(name: &Name, index: Option<u32>) -> u64
 mod tests {
     use super::*;
     use std::process::Abort;
-    use std::test::Fail;
 
     /// A name, or the end of the test.
     fn named(rt: &impl Abort, alloc: Global, text: &str) -> Name {

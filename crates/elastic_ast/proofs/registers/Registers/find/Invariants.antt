@@ -6,7 +6,7 @@ use Rattle.elastic_ast.proofs.KeptLaws.{has_key}
 use Rattle.elastic_ast.proofs.registers.Registers.find.Given as goal
 
 abbrev pub invariant-places : goal.invariant-places
-invariant-places l = Walk l.self-inside.chains (hash_of (l.name, l.index)) (has_key (keys (registers_of l.self-inside.list.items)) (l.name, l.index)) l.next
+invariant-places l = Walk l.self-inside.chains (hash_of (l.fn.name, l.fn.index)) (has_key (keys (registers_of l.self-inside.list.items)) (l.fn.name, l.fn.index)) l.next
 
 abbrev pub decreases-places : goal.decreases-places
 decreases-places l = places_left l.next
