@@ -10,3 +10,11 @@ pub mod KeyLaws
 pub mod KeptLaws
 pub mod KeptPuts
 pub mod LookUpLaws
+pub mod PlaceLaws
+pub mod EntryLaws
+pub mod SlotLaws
+pub mod CopyLaws
+pub mod VectorLaws
+pub mod SameLaws
+pub mod GivenLaws
+pub mod WriteLaws

@@ -13,3 +13,8 @@ pub mod RegisterLists
 pub mod KeyHash
 pub mod BitWords
 pub mod KeptRegisters
+pub mod Places
+pub mod Spotted
+pub mod WordOf
+pub mod Vectors
+pub mod Slots

@@ -7,7 +7,11 @@ mod flat;
 mod key_hash;
 mod registers;
 mod rule;
+mod slot;
+mod spot;
 mod statements;
+mod vector;
+mod vector_law;
 
 pub use chains::Chains;
 pub use declarations::{
@@ -22,3 +26,5 @@ pub use key_hash::{HASH_START, hash_bytes, hash_number};
 pub use registers::Registers;
 pub use rule::Rule;
 pub use statements::{Amount, Expr, Lval, RegRef, Stmt};
+pub use vector::Vector;
+pub use vector_law::{law_of_places, law_of_writes};

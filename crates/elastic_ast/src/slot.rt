@@ -1,0 +1,76 @@
+//! The values of a vector, a slot each.
+
+ghost use Rattle.std.specs.Prelude.{◌≡◌, ◌<◌, ◌≢◌, ◌↔◌, ℕ, [], IsTrue, MatchOption, length, slice_index_or, slice_set};
+ghost use Rattle.elastic_ast.specs.Places.{place};
+ghost use Rattle.elastic_ast.specs.Slots.{slot_place, entries, places};
+ghost use Rattle.elastic_ast.specs.Spotted.{spotted};
+ghost use Rattle.elastic_ast.specs.WordOf.{word};
+
+use crate::flat::Location;
+use crate::spot::{Spot, parts};
+use elx_bits::Bits;
+
+/// The value of a location at an index.
+#[derive(Drop)]
+pub struct Slot {
+    pub at: Location,
+    pub index: Option<u32>,
+    pub value: Bits,
+}
+
+impl Slot {
+    /// Whether the slot is that of a location and an index.
+    pub fn is_at(&self, spot: &Spot, index: Option<u32>) -> bool
+        ensures { IsTrue result ↔ (slot_place self.now ≡ place (spotted spot.now) index) }
+    {
+        self.index == index && parts(&self.at).same(spot)
+    }
+}
+
+/// The number of the slot of a location and an index.
+pub fn find(slots: &[Slot], spot: &Spot, index: Option<u32>) -> Option<usize>
+    ensures { let known = places (entries slots.now) in let wanted = place (spotted spot.now) index in
+        MatchOption result ((k : ℕ) → k < length known → slice_index_or known k [] ≢ wanted)
+        (λ k. (k < length known) × (slice_index_or known k [] ≡ wanted)) }
+{
+    for (k, slot) in slots.iter().enumerate() {
+        if slot.is_at(spot, index) {
+            return Some(k);
+        }
+    }
+    None
+}
+
+/// Gives a slot another value.
+pub fn overwrite(slots: &mut [Slot], k: usize, value: Bits)
+    requires { k < length slots.old }
+    ensures { let known = entries slots.old in
+        entries slots.new ≡ slice_set known k (slice_index_or (places known) k [], word value) }
+{
+    slots[k].value = value;
+}
+
+/// Whether the slots of both lists are those of the same locations, in one order.
+pub fn in_one_order(slots: &[Slot], others: &[Slot]) -> bool
+    ensures { IsTrue result → places (entries slots.now) ≡ places (entries others.now) }
+{
+    if slots.len() != others.len() {
+        return false;
+    }
+    for (k, slot) in slots.iter().enumerate() {
+        if !others[k].is_at(&parts(&slot.at), slot.index) {
+            return false;
+        }
+    }
+    true
+}
+
+/// Gives each slot the value of that with its number.
+pub fn copy_in_order(slots: &mut [Slot], from: &[Slot])
+    requires { places (entries slots.old) ≡ places (entries from.now) }
+    ensures { entries slots.new ≡ entries from.now }
+{
+    for (k, slot) in from.iter().enumerate() {
+        overwrite(slots, k, slot.value);
+    }
+}
