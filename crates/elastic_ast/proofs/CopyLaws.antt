@@ -4,7 +4,7 @@ use Rattle.std.proofs.lemmas.List.{length-map, take_more, take_more_set, take_al
 use Rattle.elx_bits.specs.Words.{Word}
 use Rattle.elastic_ast.specs.declared.slot.Slot.{Slot}
 use Rattle.elastic_ast.specs.Slots.{slot_place, entry, entries, places}
-use Rattle.elastic_ast.specs.WordOf.{word}
+use Rattle.elastic_ast.specs.BitWords.{word}
 use Rattle.elastic_ast.proofs.EntryLaws.{places_set}
 use Rattle.elastic_ast.proofs.SlotLaws.{length_entries, length_places, place_here, entry_here}
 

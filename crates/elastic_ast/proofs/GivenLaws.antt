@@ -6,7 +6,7 @@ use Rattle.std.proofs.lemmas.List.{get_or-drop, take_more_set, map_more, drop-se
 use Rattle.std.specs.Cmp.Lexicographic.{nat_list_cmp_total}
 use Rattle.elx_bits.specs.Words.{Word}
 use Rattle.elastic_ast.specs.declared.slot.Slot.{Slot}
-use Rattle.elastic_ast.specs.Slots.{slot_place, entry, entries, places, seen, taken, Apart, IsVector}
+use Rattle.elastic_ast.specs.Slots.{slot_place, entry, entries, places, seen, taken, Apart, IsVector, place_hash, Indexed}
 use Rattle.elastic_ast.specs.Vectors.{Vectored, BitsOfValidity, SamePlaces}
 use Rattle.elastic_ast.proofs.EntryLaws.{tied, same_tied, told, found, mapped}
 use Rattle.elastic_ast.proofs.SlotLaws.{length_entries, place_here, entry_here}
@@ -87,4 +87,10 @@ pub given_vector : (first new : List Slot) (old m : Vectored) → seen first ≡
 given_vector first new old m is v wide given same = record {
   apart = subst Apart (sym (ap places given ∙ same_places (entries first) m)) v.apart;
   validity = subst BitsOfValidity (sym (given_seen first new old m is given same)) wide;
+}
+
+pub given_index : (hashes : List ℕ) (first new : List Slot) (old m : Vectored) → seen first ≡ old → Indexed hashes first → BitsOfValidity m → entries new ≡ map (taken m) (entries first) → SamePlaces old m → Indexed hashes new
+given_index hashes first new old m is v wide given same = record {
+  vector = given_vector first new old m is v.vector wide given same;
+  hashed = v.hashed ∙ sym (ap (map place_hash) (ap places given ∙ same_places (entries first) m));
 }

@@ -1,6 +1,14 @@
 pub mod First
 pub mod TypedLaws
 mod Rows
+pub mod PlaceLaws
+pub mod EntryLaws
+pub mod SlotLaws
+pub mod CopyLaws
+pub mod VectorLaws
+pub mod SameLaws
+pub mod GivenLaws
+pub mod WriteLaws
 pub mod LastWithLaws
 pub mod LinkedLaws
 pub mod RegisterLaws
@@ -10,11 +18,5 @@ pub mod KeyLaws
 pub mod KeptLaws
 pub mod KeptPuts
 pub mod LookUpLaws
-pub mod PlaceLaws
-pub mod EntryLaws
-pub mod SlotLaws
-pub mod CopyLaws
-pub mod VectorLaws
-pub mod SameLaws
-pub mod GivenLaws
-pub mod WriteLaws
+pub mod HashLaws
+pub mod FindLaws

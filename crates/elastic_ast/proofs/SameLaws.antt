@@ -11,7 +11,7 @@ use Rattle.elx_bits.specs.declared.bits.Bits.{Bits}
 use Rattle.elastic_ast.specs.declared.slot.Slot.{Slot}
 use Rattle.elastic_ast.specs.Slots.{slot_place, entry, entries, places, seen, taken, Apart, IsVector}
 use Rattle.elastic_ast.specs.Vectors.{Vectored, BitsOfValidity, SamePlaces}
-use Rattle.elastic_ast.specs.WordOf.{word}
+use Rattle.elastic_ast.specs.BitWords.{word}
 use Rattle.elastic_ast.proofs.EntryLaws.{tied, tied_same, same_tied, tied_apart, told, found, found_at, found_nowhere}
 use Rattle.elastic_ast.proofs.SlotLaws.{length_entries, length_places, place_here, entry_here}
 use Rattle.elastic_ast.proofs.VectorLaws.{has_place}

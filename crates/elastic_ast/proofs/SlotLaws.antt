@@ -4,7 +4,7 @@ use Rattle.std.proofs.lemmas.List.{get_or-map, length-map, map-set}
 use Rattle.elx_bits.specs.Words.{Word}
 use Rattle.elastic_ast.specs.declared.slot.Slot.{Slot}
 use Rattle.elastic_ast.specs.Slots.{slot_place, entry, entries, places}
-use Rattle.elastic_ast.specs.WordOf.{word}
+use Rattle.elastic_ast.specs.BitWords.{word}
 
 pub length_entries : (slots : List Slot) → length (entries slots) ≡ length slots
 length_entries slots = length-map slots entry

@@ -9,9 +9,9 @@ use Rattle.elastic_ast.specs.declared.flat.Location.{Location}
 use Rattle.elastic_ast.specs.declared.flat.Location.TheVariants.{Header, Valid, Meta, Std, Pred, Reg}
 use Rattle.elastic_ast.specs.declared.slot.Slot.{Slot}
 use Rattle.elastic_ast.specs.Places.{place}
-use Rattle.elastic_ast.specs.Slots.{slot_place, entry, entries, places, seen, Apart, IsVector}
+use Rattle.elastic_ast.specs.Slots.{slot_place, entry, entries, places, seen, place_hash, Apart, IsVector, Indexed}
 use Rattle.elastic_ast.specs.Vectors.{Vectored, BitsOfValidity, MayStand}
-use Rattle.elastic_ast.specs.WordOf.{word}
+use Rattle.elastic_ast.specs.BitWords.{word}
 use Rattle.elastic_ast.proofs.EntryLaws.{tied, same_tied, found, found_at, found_nowhere, mapped, mapped_set, mapped_push, places_set, apart_push}
 use Rattle.elastic_ast.proofs.SlotLaws.{length_entries, length_places, place_here, entry_here}
 
@@ -66,6 +66,13 @@ lacked slots p v none k less at =
     let gone = sym (get-from_entries nat_list_cmp_total (entries slots) p) ∙ none in
     let both : Some (get_or (entries slots) k ([], (0, 0))).1 ≡ None = sym here ∙ gone in cc
 
+-- the hashes stay with the places
+pub changed_index : (hashes : List ℕ) (slots new : List Slot) (k : ℕ) (p : List ℕ) (w : Word) → Indexed hashes slots → k < length (places (entries slots)) → get_or (places (entries slots)) k [] ≡ p → entries new ≡ set (entries slots) k (get_or (places (entries slots)) k [], w) → (slice_index p 0 ≡ 1 → w.0 ≡ 1) → Indexed hashes new
+changed_index hashes slots new k p w v less at written f = record {
+  vector = changed slots new k p w v.vector less at written f;
+  hashed = v.hashed ∙ sym (ap (map place_hash) (ap places written ∙ places_set (entries slots) k (get_or (places (entries slots)) k []) w refl));
+}
+
 -- one slot is added
 pub added_seen : (slots : List Slot) (s : Slot) → IsVector slots → get (seen slots) (slot_place s) ≡ None → seen (slots ++ s ∷ []) ≡ insert (seen slots) (slot_place s) (word s.value)
 added_seen slots s v none =
@@ -91,3 +98,11 @@ none_from (Some w) e = cc
 
 pub lacked_by : (slots : List Slot) (m : Vectored) (p : List ℕ) → seen slots ≡ m → contains_key m p ≡ false → get (seen slots) p ≡ None
 lacked_by slots m p is e = ap (λ (n : Vectored). get n p) is ∙ none_from (get m p) e
+
+pub added_index : (hashes : List ℕ) (slots : List Slot) (s : Slot) → Indexed hashes slots → get (seen slots) (slot_place s) ≡ None → (slice_index (slot_place s) 0 ≡ 1 → (word s.value).0 ≡ 1) → Indexed (hashes ++ place_hash (slot_place s) ∷ []) (slots ++ s ∷ [])
+added_index hashes slots s v none f = record {
+  vector = added slots s v.vector none f;
+  hashed =
+      ap (λ (hs : List ℕ). hs ++ place_hash (slot_place s) ∷ []) v.hashed
+      ∙ sym (ap (map place_hash) (ap places (map_push entry slots s) ∙ map_push (λ (e : List ℕ × Word). e.0) (entries slots) (entry s)) ∙ map_push place_hash (places (entries slots)) (slot_place s));
+}

@@ -6,6 +6,10 @@ pub mod Demand
 pub mod Asked
 pub mod Typed
 pub mod Sums
+pub mod Places
+pub mod Spotted
+pub mod Vectors
+pub mod Slots
 pub mod LastWith
 pub mod Linked
 pub mod Fnv
@@ -13,8 +17,3 @@ pub mod RegisterLists
 pub mod KeyHash
 pub mod BitWords
 pub mod KeptRegisters
-pub mod Places
-pub mod Spotted
-pub mod WordOf
-pub mod Vectors
-pub mod Slots

@@ -4,9 +4,10 @@ use Rattle.std.specs.FinMap.{from_entries}
 use Rattle.std.specs.FinMap as finite
 use Rattle.elx_bits.specs.Words.{Word}
 use Rattle.elastic_ast.specs.declared.slot.Slot.{Slot}
+use Rattle.elastic_ast.specs.Fnv.{fnv}
 use Rattle.elastic_ast.specs.Places.{place}
 use Rattle.elastic_ast.specs.Vectors.{Vectored, BitsOfValidity}
-use Rattle.elastic_ast.specs.WordOf.{word}
+use Rattle.elastic_ast.specs.BitWords.{word}
 
 abbrev pub slot_place : Slot → List ℕ
 slot_place slot = place slot.at slot.index
@@ -32,6 +33,18 @@ taken vector e = (e.0, unwrap_or (finite.get vector e.0) e.1)
 pub record Apart (known : List (List ℕ)) : Type 0 where
   pub one : (i j : ℕ) → i < length known → j < length known → get_or known i [] ≡ get_or known j [] → i ≡ j
 
+-- the hash of a place: FNV-1a of 64 bits over its numbers
+unfoldable pub place_hash : List ℕ → ℕ
+place_hash place = fnv 0xcbf29ce484222325 place
+
+abbrev pub hashes_of : List Slot → List ℕ
+hashes_of slots = map place_hash (places (entries slots))
+
 pub record IsVector (slots : List Slot) : Type 0 where
   pub apart : Apart (places (entries slots))
   pub validity : BitsOfValidity (seen slots)
+
+-- slots, and the hashes of their places in the same order
+pub record Indexed (hashes : List ℕ) (slots : List Slot) : Type 0 where
+  pub vector : IsVector slots
+  pub hashed : hashes ≡ hashes_of slots

@@ -2,10 +2,11 @@
 
 ghost use Rattle.std.specs.Prelude.{◌≡◌, ◌<◌, ◌≢◌, ◌↔◌, ℕ, [], IsTrue, MatchOption, length, slice_index_or, slice_set};
 ghost use Rattle.elastic_ast.specs.Places.{place};
-ghost use Rattle.elastic_ast.specs.Slots.{slot_place, entries, places};
+ghost use Rattle.elastic_ast.specs.Slots.{slot_place, entries, places, hashes_of};
 ghost use Rattle.elastic_ast.specs.Spotted.{spotted};
-ghost use Rattle.elastic_ast.specs.WordOf.{word};
+ghost use Rattle.elastic_ast.specs.BitWords.{word};
 
+use crate::chains::Chains;
 use crate::flat::Location;
 use crate::spot::{Spot, parts};
 use elx_bits::Bits;
@@ -27,16 +28,19 @@ impl Slot {
     }
 }
 
-/// The number of the slot of a location and an index.
-pub fn find(slots: &[Slot], spot: &Spot, index: Option<u32>) -> Option<usize>
+/// The number of the slot of a location and an index, by the hashes of the slots.
+pub fn find(slots: &[Slot], chains: &Chains, spot: &Spot, index: Option<u32>) -> Option<usize>
+    requires { chains.now ≡ hashes_of slots.now }
     ensures { let known = places (entries slots.now) in let wanted = place (spotted spot.now) index in
         MatchOption result ((k : ℕ) → k < length known → slice_index_or known k [] ≢ wanted)
         (λ k. (k < length known) × (slice_index_or known k [] ≡ wanted)) }
 {
-    for (k, slot) in slots.iter().enumerate() {
-        if slot.is_at(spot, index) {
+    let mut next = chains.last(spot.hash(index));
+    'places: while let Some(k) = next {
+        if slots[k].is_at(spot, index) {
             return Some(k);
         }
+        next = chains.before(k);
     }
     None
 }

@@ -1,11 +1,14 @@
 //! Locations by their parts, which are borrowed: a look-up from a statement needs no location of its own.
 
-ghost use Rattle.std.specs.Prelude.{◌≡◌, ◌↔◌, ℕ, IsTrue};
-ghost use Rattle.elastic_ast.specs.Places.{place, place_of_lval};
+ghost use Rattle.std.specs.Prelude.{◌≡◌, ◌↔◌, ℕ, [], ◌∷◌, IsTrue};
+ghost use Rattle.elastic_ast.specs.Places.{place, place_of_lval, index_code, flag_code};
 ghost use Rattle.elastic_ast.specs.Vectors.{MayStand};
+ghost use Rattle.elastic_ast.specs.Fnv.{fnv};
+ghost use Rattle.elastic_ast.specs.Slots.{place_hash};
 ghost use Rattle.elastic_ast.specs.Spotted.{spotted};
 
 use crate::flat::Location;
+use crate::key_hash::{HASH_START, hash_bytes, hash_word};
 use crate::statements::Lval;
 use elx_bits::Name;
 
@@ -54,6 +57,33 @@ pub fn parts_of_lval(at: &Lval, index: Option<u32>) -> (Spot<'_>, Option<u32>)
 }
 
 impl Spot<'_> {
+    /// The hash of the location at an index.
+    pub fn hash(&self, index: Option<u32>) -> u64
+        ensures { result ≡ place_hash (place (spotted self.now) index) }
+    {
+        let code = index_number(index);
+        match self {
+            Spot::Header { header, field } => {
+                let length = header.as_slice().len() as u64;
+                let first = hash_bytes(three(0, code, length), header.as_slice());
+                hash_bytes(first, field.as_slice())
+            }
+            Spot::Valid { header } => hash_bytes(two(1, code), header.as_slice()),
+            Spot::Meta { name, own } => hash_bytes(
+                three(2, code, flag_number(*own)),
+                name.as_slice(),
+            ),
+            Spot::Std { name } => hash_bytes(two(3, code), name.as_slice()),
+            Spot::Pred { number, own } => {
+                hash_word(three(4, code, flag_number(*own)), u64::from(*number))
+            }
+            Spot::Reg { name, own } => hash_bytes(
+                three(5, code, flag_number(*own)),
+                name.as_slice(),
+            ),
+        }
+    }
+
     /// Whether both are one location.
     pub fn same(&self, other: &Spot) -> bool
         ensures { IsTrue result ↔ (spotted self.now ≡ spotted other.now) }
@@ -92,4 +122,35 @@ impl Spot<'_> {
             _ => false,
         }
     }
+}
+
+/// The hash of two numbers.
+fn two(first: u64, second: u64) -> u64
+    ensures { result ≡ fnv 0xcbf29ce484222325 (first ∷ second ∷ []) }
+{
+    hash_word(hash_word(HASH_START, first), second)
+}
+
+/// The hash of three numbers.
+fn three(first: u64, second: u64, third: u64) -> u64
+    ensures { result ≡ fnv 0xcbf29ce484222325 (first ∷ second ∷ third ∷ []) }
+{
+    hash_word(two(first, second), third)
+}
+
+/// The number that stands for an index in a place.
+fn index_number(index: Option<u32>) -> u64
+    ensures { result ≡ index_code index }
+{
+    match index {
+        None => 0,
+        Some(index) => u64::from(index) + 1,
+    }
+}
+
+/// The number that stands for a flag in a place.
+fn flag_number(own: bool) -> u64
+    ensures { result ≡ flag_code own }
+{
+    if own { 1 } else { 0 }
 }

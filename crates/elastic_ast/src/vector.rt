@@ -1,13 +1,14 @@
 //! The values of a program's locations while it runs on a packet.
 
-ghost use Rattle.std.specs.Prelude.{◌≡◌, ◌<◌, ◌↔◌, ℕ, false, [], length, map as list_map, slice_index_or, IsTrue, IfSome, OnOk, OnErr, option_map, slice_index, if◌then◌else◌};
+ghost use Rattle.std.specs.Prelude.{IfOk, ◌≡◌, ◌<◌, ◌↔◌, ℕ, false, [], length, map as list_map, slice_index_or, IsTrue, IfSome, OnOk, OnErr, option_map, slice_index, if◌then◌else◌};
 ghost use Rattle.std.specs.FinMap as map;
 ghost use Rattle.elastic_ast.specs.Places.{place, place_of_lval, valid_place};
 ghost use Rattle.elastic_ast.specs.Slots.{entry, entries, places, taken};
 ghost use Rattle.elastic_ast.specs.Spotted.{spotted};
 ghost use Rattle.elastic_ast.specs.Vectors.{BitsOfValidity, MayStand, SamePlaces};
-ghost use Rattle.elastic_ast.specs.WordOf.{word};
+ghost use Rattle.elastic_ast.specs.BitWords.{word};
 
+use crate::chains::Chains;
 use crate::flat::Location;
 use crate::slot::{Slot, copy_in_order, find, in_one_order, overwrite};
 use crate::spot::{Spot, parts, parts_of_lval};
@@ -21,6 +22,7 @@ use std::marker::Model;
 #[derive(Drop)]
 pub struct Vector {
     slots: Vec<Slot>,
+    chains: Chains,
 }
 
 impl Model for Vector {
@@ -32,11 +34,11 @@ impl Model for Vector {
 
     ghost coded = { map.code (coded_list coded_ℕ) (coded× coded_ℕ coded_ℕ) };
 
-    ghost use Rattle.elastic_ast.specs.Slots.{seen, IsVector};
+    ghost use Rattle.elastic_ast.specs.Slots.{seen, Indexed};
 
     ghost view = { λ vector. seen vector.slots.items };
 
-    ghost invariant = { λ vector. IsVector vector.slots.items };
+    ghost invariant = { λ vector. Indexed vector.chains vector.slots.items };
 }
 
 impl Vector {
@@ -46,6 +48,7 @@ impl Vector {
     {
         Vector {
             slots: Vec::new(alloc),
+            chains: Chains::new(alloc),
         }
     }
 
@@ -138,7 +141,9 @@ impl Vector {
         ensures ok { OnOk result (self.new ≡ map.insert self.old (place at index) (word value)) }
         ensures err { OnErr result (self.new ≡ self.old) }
     {
-        self.slots.push(Slot { at, index, value })?;
+        self.slots.reserve(1)?;
+        self.chains.push(parts(&at).hash(index))?;
+        self.slots.push_reserved(Slot { at, index, value });
         Ok(())
     }
 
@@ -146,7 +151,7 @@ impl Vector {
     fn value_at(&self, spot: &Spot, index: Option<u32>) -> Option<Bits>
         ensures { option_map word result ≡ map.get self.now (place (spotted spot.now) index) }
     {
-        match find(&self.slots, spot, index) {
+        match find(&self.slots, &self.chains, spot, index) {
             Some(k) => Some(self.slots[k].value),
             None => None,
         }
@@ -158,7 +163,7 @@ impl Vector {
         ensures there { result ≡ map.contains_key self.old (place (spotted spot.now) index) }
         ensures now { self.new ≡ (if result then map.insert self.old (place (spotted spot.now) index) (word value) else self.old) }
     {
-        match find(&self.slots, spot, index) {
+        match find(&self.slots, &self.chains, spot, index) {
             Some(k) => {
                 overwrite(&mut self.slots, k, value);
                 true
@@ -214,6 +219,9 @@ mod tests {
     use std::process::Abort;
     use std::test::Fail;
 
+    /// What stands for the number of a value that isn't there.
+    const NOTHING: u128 = 999;
+
     fn name(alloc: Global, text: &str) -> Result<Name, AllocError> {
         Name::of(alloc, text.as_bytes())
     }
@@ -236,6 +244,19 @@ mod tests {
         })
     }
 
+    /// The metadata field `x`, or its element at an index `i`.
+    fn assigned(alloc: Global, element: bool) -> Result<Lval, AllocError> {
+        let index = if element {
+            Some(name(alloc, "i")?)
+        } else {
+            None
+        };
+        Ok(Lval::Meta {
+            name: name(alloc, "x")?,
+            index,
+        })
+    }
+
     /// A value of 8 bits.
     fn byte(value: u8) -> Bits {
         Bits {
@@ -244,40 +265,63 @@ mod tests {
         }
     }
 
-    /// The number of a value, and 999 where there is none.
+    /// The number of a value, or that of nothing.
     fn number(value: Option<Bits>) -> u128 {
-        value.map_or(999, |bits| bits.value)
+        value.map_or(NOTHING, |bits| bits.value)
     }
 
-    /// Fields `a.x` and `b.x`, the field `x` as a scalar and as an array of two elements, and the validity bit of `a`.
-    fn filled(alloc: Global) -> Result<Vector, AllocError> {
+    /// The fields `a.x` and `b.x`, in one order or the other.
+    fn fields(alloc: Global, turned: bool, first: u8, second: u8) -> Result<Vector, AllocError> {
         let mut vector = Vector::new(alloc);
-        vector.put(field(alloc, "a", "x")?, None, byte(1))?;
-        vector.put(field(alloc, "b", "x")?, None, byte(2))?;
+        if turned {
+            vector.put(field(alloc, "b", "x")?, None, byte(second))?;
+        }
+        vector.put(field(alloc, "a", "x")?, None, byte(first))?;
+        if !turned {
+            vector.put(field(alloc, "b", "x")?, None, byte(second))?;
+        }
+        Ok(vector)
+    }
+
+    /// The metadata field `x`, and the elements 0 and 1 of an array `x`.
+    fn elements(alloc: Global) -> Result<Vector, AllocError> {
+        let mut vector = Vector::new(alloc);
         vector.put(meta(alloc, "x", false)?, None, byte(3))?;
         vector.put(meta(alloc, "x", true)?, Some(0), byte(4))?;
         vector.put(meta(alloc, "x", true)?, Some(1), byte(5))?;
-        let header = name(alloc, "a")?;
-        vector.put(
-            Location::Valid { header },
-            None,
-            Bits { width: 1, value: 1 },
-        )?;
         Ok(vector)
+    }
+
+    /// The values of `a.x` and `b.x`.
+    fn both(alloc: Global, vector: &Vector) -> Result<(u128, u128), AllocError> {
+        let first = number(vector.get(&field(alloc, "a", "x")?, None));
+        let second = number(vector.get(&field(alloc, "b", "x")?, None));
+        Ok((first, second))
+    }
+
+    /// The values of the metadata field `x` and of the elements 0, 1 and 2 of the array.
+    fn loaded(alloc: Global, vector: &Vector) -> Result<[u128; 4], AllocError> {
+        let scalar = number(vector.load(&assigned(alloc, false)?, Some(1)));
+        let element = assigned(alloc, true)?;
+        Ok([
+            scalar,
+            number(vector.load(&element, Some(0))),
+            number(vector.load(&element, Some(1))),
+            number(vector.load(&element, Some(2))),
+        ])
     }
 
     #[test]
     fn fields_of_one_name_in_two_headers_are_apart(rt: HostRuntime) -> Result<(), Fail> {
-        let mut vector = filled(rt.alloc())?;
-        let (first, second) = (field(rt.alloc(), "a", "x")?, field(rt.alloc(), "b", "x")?);
-        assert_eq!(rt; number(vector.get(&first, None)), 1);
-        assert_eq!(rt; number(vector.get(&second, None)), 2);
+        let mut vector = fields(rt.alloc(), false, 1, 2)?;
+        assert_eq!(rt; both(rt.alloc(), &vector)?, (1, 2));
+        let second = field(rt.alloc(), "b", "x")?;
         assert!(rt; vector.set(&second, None, byte(7)));
-        assert_eq!(rt; number(vector.get(&first, None)), 1);
-        assert_eq!(rt; number(vector.get(&second, None)), 7);
-        vector.put(first, None, byte(8))?;
-        let first = field(rt.alloc(), "a", "x")?;
-        assert_eq!(rt; number(vector.get(&first, None)), 8);
+        assert_eq!(rt; both(rt.alloc(), &vector)?, (1, 7));
+        vector.put(field(rt.alloc(), "a", "x")?, None, byte(8))?;
+        assert_eq!(rt; both(rt.alloc(), &vector)?, (8, 7));
+        assert!(rt; !vector.set(&second, Some(0), byte(9)));
+        assert!(rt; vector.get(&second, Some(0)).is_none());
         Ok(())
     }
 
@@ -285,55 +329,55 @@ mod tests {
     fn names_are_cut_where_the_header_ends(rt: HostRuntime) -> Result<(), Fail> {
         let mut vector = Vector::new(rt.alloc());
         vector.put(field(rt.alloc(), "ab", "c")?, None, byte(1))?;
-        assert!(rt; vector.get(&field(rt.alloc(), "a", "bc")?, None).is_none());
-        assert_eq!(rt; number(vector.get(&field(rt.alloc(), "ab", "c")?, None)), 1);
+        let cut = field(rt.alloc(), "a", "bc")?;
+        assert!(rt; vector.get(&cut, None).is_none() && !vector.set(&cut, None, byte(2)));
+        let same = field(rt.alloc(), "ab", "c")?;
+        assert_eq!(rt; number(vector.get(&same, None)), 1);
         Ok(())
     }
 
     #[test]
     fn an_element_and_a_scalar_of_one_name_are_apart(rt: HostRuntime) -> Result<(), Fail> {
-        let mut vector = filled(rt.alloc())?;
-        let scalar = Lval::Meta {
-            name: name(rt.alloc(), "x")?,
-            index: None,
-        };
-        let element = Lval::Meta {
-            name: name(rt.alloc(), "x")?,
-            index: Some(name(rt.alloc(), "i")?),
-        };
-        assert_eq!(rt; number(vector.load(&scalar, None)), 3);
-        assert_eq!(rt; number(vector.load(&scalar, Some(1))), 3);
-        assert_eq!(rt; number(vector.load(&element, Some(0))), 4);
-        assert_eq!(rt; number(vector.load(&element, Some(1))), 5);
-        assert!(rt;
-            vector.load(&element, Some(2)).is_none() && vector.load(&element, None).is_none()
-        );
+        let mut vector = elements(rt.alloc())?;
+        assert_eq!(rt; loaded(rt.alloc(), &vector)?, [3, 4, 5, NOTHING]);
+        let element = assigned(rt.alloc(), true)?;
         assert!(rt; vector.store(&element, Some(1), byte(9)));
-        assert!(rt; !vector.store(&element, Some(2), byte(9)));
-        assert_eq!(rt; number(vector.load(&element, Some(0))), 4);
-        assert_eq!(rt; number(vector.load(&element, Some(1))), 9);
+        assert!(rt;
+            !vector.store(&element, Some(2), byte(9)) && !vector.store(&element, None, byte(9))
+        );
+        assert_eq!(rt; loaded(rt.alloc(), &vector)?, [3, 4, 9, NOTHING]);
+        let scalar = assigned(rt.alloc(), false)?;
+        assert!(rt; vector.store(&scalar, Some(1), byte(6)));
+        assert_eq!(rt; loaded(rt.alloc(), &vector)?, [6, 4, 9, NOTHING]);
+        Ok(())
+    }
+
+    #[test]
+    fn a_statement_names_header_fields_and_fields_of_std(rt: HostRuntime) -> Result<(), Fail> {
+        let mut vector = fields(rt.alloc(), false, 1, 2)?;
         let header = Lval::Header {
             header: name(rt.alloc(), "b")?,
             field: name(rt.alloc(), "x")?,
         };
         assert!(rt; vector.store(&header, Some(1), byte(6)));
-        assert_eq!(rt; number(vector.get(&field(rt.alloc(), "b", "x")?, None)), 6);
+        assert_eq!(rt; both(rt.alloc(), &vector)?, (1, 6));
         let port = Lval::Std(name(rt.alloc(), "x")?);
         assert!(rt; vector.load(&port, None).is_none() && !vector.store(&port, None, byte(1)));
-        vector.put(
-            Location::Std {
-                name: name(rt.alloc(), "x")?,
-            },
-            None,
-            byte(10),
-        )?;
-        assert_eq!(rt; number(vector.load(&port, None)), 10);
+        let name = name(rt.alloc(), "x")?;
+        vector.put(Location::Std { name }, None, byte(10))?;
+        assert_eq!(rt; number(vector.load(&port, Some(3))), 10);
         Ok(())
     }
 
     #[test]
     fn a_header_has_its_validity_bit(rt: HostRuntime) -> Result<(), Fail> {
-        let mut vector = filled(rt.alloc())?;
+        let mut vector = Vector::new(rt.alloc());
+        let header = name(rt.alloc(), "a")?;
+        vector.put(
+            Location::Valid { header },
+            None,
+            Bits { width: 1, value: 1 },
+        )?;
         let (header, other) = (name(rt.alloc(), "a")?, name(rt.alloc(), "b")?);
         assert_eq!(rt; number(vector.valid(&header)), 1);
         assert!(rt; vector.mark(&header, Bits { width: 1, value: 0 }));
@@ -345,77 +389,60 @@ mod tests {
     }
 
     #[test]
-    fn what_is_not_there_is_refused(rt: HostRuntime) -> Result<(), Fail> {
+    fn predicates_are_told_by_number_and_element(rt: HostRuntime) -> Result<(), Fail> {
         let mut vector = Vector::new(rt.alloc());
-        let at = meta(rt.alloc(), "x", false)?;
-        assert!(rt; vector.get(&at, None).is_none() && !vector.set(&at, None, byte(1)));
-        vector.put(meta(rt.alloc(), "x", false)?, None, byte(1))?;
-        assert!(rt; vector.get(&at, Some(0)).is_none() && !vector.set(&at, Some(0), byte(2)));
-        assert_eq!(rt; number(vector.get(&at, None)), 1);
+        for (value, number, own) in [(0, 0, false), (1, 1, false), (2, 0, true), (3, 1, true)] {
+            vector.put(Location::Pred { number, own }, None, byte(value))?;
+        }
+        for (want, number, own) in [(0, 0, false), (1, 1, false), (2, 0, true), (3, 1, true)] {
+            let value = vector.get(&Location::Pred { number, own }, None);
+            assert_eq!(rt; value.map_or(NOTHING, |bits| bits.value), want);
+        }
         Ok(())
     }
 
     #[test]
-    fn predicates_and_registers_are_told_by_their_numbers_names_and_elements(
-        rt: HostRuntime,
-    ) -> Result<(), Fail> {
+    fn registers_are_told_by_name_and_element(rt: HostRuntime) -> Result<(), Fail> {
         let mut vector = Vector::new(rt.alloc());
-        let mut value = 0u8;
-        for own in [false, true] {
-            for number in [0, 1] {
-                vector.put(Location::Pred { number, own }, None, byte(value))?;
-                value = value.wrapping_add(1);
-            }
-            for text in ["r", "s"] {
-                let name = name(rt.alloc(), text)?;
-                vector.put(Location::Reg { name, own }, None, byte(value))?;
-                value = value.wrapping_add(1);
-            }
+        for (value, text, own) in [(0, "r", false), (1, "s", false), (2, "r", true)] {
+            let name = name(rt.alloc(), text)?;
+            vector.put(Location::Reg { name, own }, None, byte(value))?;
         }
-        let at = Location::Pred {
-            number: 1,
-            own: false,
-        };
-        assert_eq!(rt; number(vector.get(&at, None)), 1);
-        let at = Location::Pred {
-            number: 0,
-            own: true,
-        };
-        assert_eq!(rt; number(vector.get(&at, None)), 4);
-        let at = Location::Reg {
-            name: name(rt.alloc(), "s")?,
-            own: true,
-        };
-        assert_eq!(rt; number(vector.get(&at, None)), 7);
+        for (want, text, own) in [
+            (0, "r", false),
+            (1, "s", false),
+            (2, "r", true),
+            (NOTHING, "s", true),
+        ] {
+            let name = name(rt.alloc(), text)?;
+            assert_eq!(rt;
+                number(vector.get(&Location::Reg { name, own }, None)),
+                want
+            );
+        }
         Ok(())
     }
 
     #[test]
     fn a_copy_takes_all_values_of_the_same_locations(rt: HostRuntime) -> Result<(), Fail> {
-        let mut vector = filled(rt.alloc())?;
-        let mut from = filled(rt.alloc())?;
-        let (first, second) = (field(rt.alloc(), "a", "x")?, field(rt.alloc(), "b", "x")?);
-        assert!(rt; from.set(&first, None, byte(20)) && from.set(&second, None, byte(21)));
-        assert!(rt; vector.copy_from(&from));
-        assert_eq!(rt; number(vector.get(&first, None)), 20);
-        assert_eq!(rt; number(vector.get(&second, None)), 21);
+        for (turned, other) in [(false, false), (false, true), (true, false)] {
+            let mut vector = fields(rt.alloc(), turned, 1, 2)?;
+            let from = fields(rt.alloc(), other, 11, 12)?;
+            assert!(rt; vector.copy_from(&from), "{turned} {other}");
+            assert_eq!(rt; both(rt.alloc(), &vector)?, (11, 12));
+        }
         Ok(())
     }
 
     #[test]
-    fn a_copy_asks_for_no_order_and_for_the_same_locations(rt: HostRuntime) -> Result<(), Fail> {
-        let (first, second) = (field(rt.alloc(), "a", "x")?, field(rt.alloc(), "b", "x")?);
-        let mut vector = Vector::new(rt.alloc());
-        vector.put(field(rt.alloc(), "a", "x")?, None, byte(1))?;
-        vector.put(field(rt.alloc(), "b", "x")?, None, byte(2))?;
+    fn a_copy_of_other_locations_is_refused(rt: HostRuntime) -> Result<(), Fail> {
+        let mut vector = fields(rt.alloc(), false, 1, 2)?;
         let mut from = Vector::new(rt.alloc());
         from.put(field(rt.alloc(), "b", "x")?, None, byte(12))?;
         assert!(rt; !vector.copy_from(&from) && !from.copy_from(&vector));
-        assert_eq!(rt; number(vector.get(&second, None)), 2);
-        from.put(field(rt.alloc(), "a", "x")?, None, byte(11))?;
-        assert!(rt; vector.copy_from(&from));
-        assert_eq!(rt; number(vector.get(&first, None)), 11);
-        assert_eq!(rt; number(vector.get(&second, None)), 12);
+        from.put(field(rt.alloc(), "a", "y")?, None, byte(11))?;
+        assert!(rt; !vector.copy_from(&from));
+        assert_eq!(rt; both(rt.alloc(), &vector)?, (1, 2));
         Ok(())
     }
 }

@@ -1,8 +1,8 @@
 use Rattle.std.proofs.Common.{refl, sym, ap, subst, ◌∙◌, arith}
 use Rattle.std.proofs.lemmas.List.{with_items_is}
-use Rattle.elastic_ast.specs.Slots.{seen, IsVector}
+use Rattle.elastic_ast.specs.Slots.{seen, Indexed}
 use Rattle.elastic_ast.specs.Vectors.{BitsOfValidity}
-use Rattle.elastic_ast.proofs.GivenLaws.{given_seen, given_vector}
+use Rattle.elastic_ast.proofs.GivenLaws.{given_seen, given_index}
 use Rattle.elastic_ast.proofs.SameLaws.{one_order_same}
 use Rattle.elastic_ast.proofs.vector.Vector.copy_from.Goals as goal
 
@@ -14,8 +14,8 @@ returns-then-in_one_order-clause-same c =
 pub invariant_of-self-2 : goal.invariant_of-self-2
 invariant_of-self-2 c =
     let given = rw c.deref_mut-2.ensures.value at c.give_to.ensures in
-    subst IsVector (sym (with_items_is c.self.inside.slots c.give_to.new.slots (omega arith)))
-    (given_vector c.self.inside.slots.items c.give_to.new.slots c.args.self.now c.args.from.now c.self.view_is c.self.invariant (subst BitsOfValidity c.from.view_is c.from.invariant.validity) given (c.has_places_of.ensures.0 c.if-not-has_places_of.false))
+    subst (Indexed c.self.inside.chains) (sym (with_items_is c.self.inside.slots c.give_to.new.slots (omega arith)))
+    (given_index c.self.inside.chains c.self.inside.slots.items c.give_to.new.slots c.args.self.now c.args.from.now c.self.view_is c.self.invariant (subst BitsOfValidity c.from.view_is c.from.invariant.vector.validity) given (c.has_places_of.ensures.0 c.if-not-has_places_of.false))
 
 pub returns-clause-now : goal.returns-clause-now
 returns-clause-now c =

@@ -9,7 +9,7 @@ use Rattle.elastic_ast.proofs.vector.Vector.value_at.Goals as goal
 pub returns-in-Some : goal.returns-in-Some
 returns-in-Some c =
     let is = rw c.deref.ensures.value at c.in-Some.ensures in
-    sym (seen_at c.self.inside.slots.items c.in-Some.k c.index.result.now _ c.self.invariant is.0 is.1 c.index.ensures)
+    sym (seen_at c.self.inside.slots.items c.in-Some.k c.index.result.now _ c.self.invariant.vector is.0 is.1 c.index.ensures)
     ∙ ap (λ (m : Vectored). map.get m (place (spotted c.args.spot.now) c.args.index)) c.self.view_is
 
 pub returns-in-None : goal.returns-in-None
