@@ -1,11 +1,11 @@
 -- What a list of entries answers as a map, where no two have the same place.
-use Rattle.std.proofs.Common.{◌≡◌, ◌≢◌, ℕ, suc, zero, ◌+◌, ◌<◌, Bool, true, false, cond, List, [], ◌∷◌, ◌++◌, length, map, set, get_or, Option, Some, None, refl, sym, ap, subst, ◌∙◌, arith}
+use Rattle.std.proofs.Common.{◌≡◌, ◌≢◌, ℕ, suc, zero, ◌+◌, ◌<◌, Bool, true, false, cond, List, [], ◌∷◌, ◌++◌, length, set, get_or, Option, Some, None, refl, sym, ap, ◌∙◌, arith}
 use Rattle.std.specs.Ordering.{nat_cmp, eq_by_cmp}
 use Rattle.std.specs.Cmp.Lexicographic.{slice_cmp, nat_list_cmp_total}
-use Rattle.std.specs.FinMap.{FinMap, find, get, insert, from_entries, get-insert, get-from_entries, same_map, from_entries_push, IsAntisymmetric, nat_cmp-IsAntisymmetric, slice_cmp-IsAntisymmetric}
+use Rattle.std.specs.FinMap.{find, insert, from_entries, get-insert, get-from_entries, same_map, from_entries_push, IsAntisymmetric, nat_cmp-IsAntisymmetric, slice_cmp-IsAntisymmetric}
 use Rattle.std.proofs.lemmas.Cmp.{eq_by_cmp_equiv}
 use Rattle.std.proofs.lemmas.Map.Views.{tells_apart}
-use Rattle.std.proofs.lemmas.List.{map-set, set-get_or, length-map, length_push, get_or_append_left, get_or_push}
+use Rattle.std.proofs.lemmas.List.{map-set, set-get_or, length-map, length_push}
 use Rattle.elx_bits.specs.Words.{Word}
 use Rattle.elastic_ast.specs.Slots.{places, Apart}
 use Rattle.elastic_ast.specs.Vectors.{Vectored}

@@ -1,5 +1,5 @@
 -- The way through the slots of one hash to that of a place.
-use Rattle.std.proofs.Common.{◌≡◌, ◌≢◌, ◌<◌, ℕ, Bool, true, false, List, [], length, map, get_or, Option, Some, None, refl, sym, ap, ◌∙◌, arith, true≢false}
+use Rattle.std.proofs.Common.{◌≡◌, ◌≢◌, ◌<◌, ℕ, Bool, true, false, List, [], length, get_or, Some, None, sym, ap, ◌∙◌, arith, true≢false}
 use Rattle.std.proofs.lemmas.List.{get_or-map, length-map}
 use Rattle.elastic_ast.specs.declared.slot.Slot.{Slot}
 use Rattle.elastic_ast.specs.Slots.{slot_place, entries, places, place_hash, hashes_of}

@@ -1,6 +1,6 @@
 -- Slots that are each given the word of a vector.
-use Rattle.std.proofs.Common.{◌≡◌, ℕ, suc, zero, ◌+◌, ◌<◌, ◌≤◌, Bool, true, false, ◌||◌, cond, List, [], ◌∷◌, ◌++◌, length, map, set, take, drop, get_or, Option, Some, None, is_some, unwrap_or, refl, sym, ap, subst, ◌∙◌, arith, add-zero}
-use Rattle.std.specs.FinMap.{get, contains_key, get-from_entries, same_map}
+use Rattle.std.proofs.Common.{◌≡◌, ℕ, ◌+◌, ◌<◌, ◌≤◌, true, false, ◌||◌, cond, List, [], ◌∷◌, ◌++◌, length, map, set, take, drop, get_or, Option, Some, None, is_some, unwrap_or, refl, sym, ap, subst, ◌∙◌, arith, add-zero}
+use Rattle.std.specs.FinMap.{get, get-from_entries, same_map}
 use Rattle.std.specs.List.{list_any}
 use Rattle.std.proofs.lemmas.List.{get_or-drop, take_more_set, map_more, drop-set-lt, drop-drop, take_all}
 use Rattle.std.specs.Cmp.Lexicographic.{nat_list_cmp_total}

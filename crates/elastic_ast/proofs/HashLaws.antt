@@ -1,5 +1,5 @@
 -- The hash of a place, from the hashes of its parts.
-use Rattle.std.proofs.Common.{◌≡◌, ℕ, List, [], ◌∷◌, ◌++◌, refl, sym, ap, ◌∙◌}
+use Rattle.std.proofs.Common.{◌≡◌, ℕ, List, [], ◌∷◌, ◌++◌, refl, ap, ◌∙◌}
 use Rattle.elastic_ast.specs.Fnv.{fnv, fnv_step}
 use Rattle.elastic_ast.specs.Slots.{place_hash}
 

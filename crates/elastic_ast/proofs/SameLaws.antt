@@ -1,19 +1,17 @@
 -- Vectors with the same places.
-use Rattle.std.proofs.Common.{◌≡◌, ◌≢◌, ℕ, suc, zero, ◌+◌, ◌<◌, ◌≤◌, Bool, true, false, cond, ◌||◌, ◌↔◌, IsTrue, List, [], ◌∷◌, ◌++◌, length, map, set, take, drop, get_or, Option, Some, None, is_some, is_none, option_map, unwrap_or, refl, sym, ap, subst, ◌∙◌, arith, add-zero}
-use Rattle.std.specs.FinMap.{get, contains_key, get-from_entries, same_map}
+use Rattle.std.proofs.Common.{◌≡◌, ℕ, suc, ◌<◌, Bool, true, false, ◌||◌, ◌↔◌, IsTrue, List, [], ◌∷◌, length, get_or, Option, Some, None, is_some, option_map, refl, sym, ap, subst, ◌∙◌, arith}
+use Rattle.std.specs.FinMap.{get, contains_key, get-from_entries}
 use Rattle.std.specs.FinMap.Entries.{is_some-find}
 use Rattle.std.specs.List.{list_any}
-use Rattle.std.proofs.lemmas.List.{get_or-drop, take_more_set, map_more, drop-set-lt, drop-drop, take_all}
 use Rattle.std.specs.Ordering.{nat_cmp}
 use Rattle.std.specs.Cmp.Lexicographic.{slice_cmp, nat_list_cmp_total}
-use Rattle.elx_bits.specs.Words.{Word}
 use Rattle.elx_bits.specs.declared.bits.Bits.{Bits}
 use Rattle.elastic_ast.specs.declared.slot.Slot.{Slot}
-use Rattle.elastic_ast.specs.Slots.{slot_place, entry, entries, places, seen, taken, Apart, IsVector}
-use Rattle.elastic_ast.specs.Vectors.{Vectored, BitsOfValidity, SamePlaces}
+use Rattle.elastic_ast.specs.Slots.{slot_place, entries, places, seen, IsVector}
+use Rattle.elastic_ast.specs.Vectors.{Vectored, SamePlaces}
 use Rattle.elastic_ast.specs.BitWords.{word}
-use Rattle.elastic_ast.proofs.EntryLaws.{tied, tied_same, same_tied, tied_apart, told, found, found_at, found_nowhere}
-use Rattle.elastic_ast.proofs.SlotLaws.{length_entries, length_places, place_here, entry_here}
+use Rattle.elastic_ast.proofs.EntryLaws.{tied, same_tied}
+use Rattle.elastic_ast.proofs.SlotLaws.{place_here}
 use Rattle.elastic_ast.proofs.VectorLaws.{has_place}
 
 -- each of these places is one of the vector

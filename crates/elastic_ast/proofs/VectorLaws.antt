@@ -1,6 +1,6 @@
 -- What a vector answers, from its slots.
-use Rattle.std.proofs.Common.{◌≡◌, ◌≢◌, ℕ, ◌+◌, ◌<◌, Bool, true, false, cond, List, [], ◌∷◌, ◌++◌, length, map, set, get_or, slice_index, Option, Some, None, is_some, IfSome, refl, sym, ap, subst, ◌∙◌, arith}
-use Rattle.std.specs.FinMap.{get, contains_key, empty, insert, get-empty, get-insert, get-from_entries}
+use Rattle.std.proofs.Common.{◌≡◌, ◌≢◌, ℕ, ◌<◌, Bool, true, false, cond, List, [], ◌∷◌, ◌++◌, length, map, set, get_or, slice_index, Option, Some, None, is_some, IfSome, refl, sym, ap, subst, ◌∙◌, arith}
+use Rattle.std.specs.FinMap.{get, contains_key, insert, get-empty, get-insert, get-from_entries}
 use Rattle.std.specs.Ordering.{nat_cmp}
 use Rattle.std.specs.Cmp.Lexicographic.{slice_cmp, nat_list_cmp_total}
 use Rattle.std.proofs.lemmas.List.{map_push}
@@ -12,8 +12,8 @@ use Rattle.elastic_ast.specs.Places.{place}
 use Rattle.elastic_ast.specs.Slots.{slot_place, entry, entries, places, seen, place_hash, Apart, IsVector, Indexed}
 use Rattle.elastic_ast.specs.Vectors.{Vectored, BitsOfValidity, MayStand}
 use Rattle.elastic_ast.specs.BitWords.{word}
-use Rattle.elastic_ast.proofs.EntryLaws.{tied, same_tied, found, found_at, found_nowhere, mapped, mapped_set, mapped_push, places_set, apart_push}
-use Rattle.elastic_ast.proofs.SlotLaws.{length_entries, length_places, place_here, entry_here}
+use Rattle.elastic_ast.proofs.EntryLaws.{tied, same_tied, found_at, found_nowhere, mapped, mapped_set, mapped_push, places_set, apart_push}
+use Rattle.elastic_ast.proofs.SlotLaws.{length_entries, length_places, entry_here}
 
 pub stands : (at : Location) (index : Option ℕ) (w : Word) → MayStand at w.0 → slice_index (place at index) 0 ≡ 1 → w.0 ≡ 1
 stands (Valid header) index w m e = m

@@ -1,10 +1,10 @@
 -- What is read after writes to a vector.
-use Rattle.std.proofs.Common.{◌≡◌, ◌≢◌, ℕ, Bool, true, false, cond, List, Option, Some, unwrap_or, refl, sym, ap, ◌∙◌}
+use Rattle.std.proofs.Common.{◌≡◌, ℕ, Bool, cond, List, Option, Some, unwrap_or, refl, sym, ap, ◌∙◌}
 use Rattle.std.specs.FinMap.{get, insert, get-insert, same_map}
 use Rattle.std.specs.Cmp.Lexicographic.{nat_list_cmp_total}
 use Rattle.elx_bits.specs.Words.{Word}
 use Rattle.elastic_ast.specs.Vectors.{Vectored, WritesCommute, WritesAreRead, WritesStay}
-use Rattle.elastic_ast.proofs.EntryLaws.{tied, tied_same, tied_apart, same_tied, told, swapped}
+use Rattle.elastic_ast.proofs.EntryLaws.{tied, tied_same, tied_apart, told, swapped}
 
 twice : (vector : Vectored) (p q : List ℕ) (v w : Word) (x : List ℕ) → get (insert (insert vector p v) q w) x ≡ cond (tied x q) (Some w) (cond (tied x p) (Some v) (get vector x))
 twice vector p q v w x =

@@ -1,4 +1,4 @@
-use Rattle.std.proofs.Common.{◌≡◌, ◌<◌, true, false, length, sym, ◌∙◌, arith}
+use Rattle.std.proofs.Common.{◌≡◌, true, false, sym, ◌∙◌, arith}
 use borrow.Author.Count.{below_more}
 use Rattle.elastic_ast.proofs.SlotLaws.{length_places}
 use Rattle.elastic_ast.proofs.SameLaws.{asked}
