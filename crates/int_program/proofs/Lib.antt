@@ -3,3 +3,11 @@ pub mod SumLaws
 pub mod BoundLaws
 pub mod LimitLaws
 pub mod TightLaws
+pub mod KeepLaws
+pub mod WeightLaws
+pub mod StopLaws
+pub mod TreeLaws
+pub mod KnownLaws
+pub mod CaseLaws
+pub mod CountLaws
+pub mod InsideLaws

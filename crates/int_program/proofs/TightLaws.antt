@@ -1,5 +1,5 @@
 -- The two ends that a row leaves are one division.
-use Rattle.std.proofs.Common.{◌≡◌, ℕ, ℤ, pos, negsuc, zero, suc, ◌<ℤ◌, neg_ℤ, Bool, true, false, cond, ◌&&◌, Option, Some, None, int_lt, int_le, arith, refl, sym, ap, ◌∙◌, ◌-ℤ◌}
+use Rattle.std.proofs.Common.{◌≡◌, ℕ, ℤ, pos, negsuc, ◌<ℤ◌, Bool, true, false, cond, ◌&&◌, Option, Some, None, int_lt, int_le, arith, refl, sym, ap, ◌∙◌, ◌-ℤ◌}
 use Rattle.std.proofs.lemmas.Int.{ints}
 use Rattle.std.specs.Int.{int_div_euclid}
 use Rattle.int_program.specs.Sums.{at}

@@ -3,3 +3,10 @@ pub mod Boxes
 pub mod Bounds
 pub mod Limits
 pub mod Tightening
+pub mod Points
+pub mod Weighted
+pub mod Stopping
+pub mod Accepts
+pub mod Cases
+pub mod Counting
+pub mod Fair

@@ -1,5 +1,5 @@
 -- What a row leaves to one variable of a box; this project's own.
-use Rattle.std.specs.Prelude.{◌≡◌, ℕ, ℤ, pos, ◌+ℤ◌, ◌-ℤ◌, neg_ℤ, Bool, ◌&&◌, not, List, [], ◌∷◌, filter, Option, Some, None, nat_eq, int_lt, int_le, if◌then◌else◌}
+use Rattle.std.specs.Prelude.{ℕ, ℤ, pos, ◌+ℤ◌, ◌-ℤ◌, neg_ℤ, ◌&&◌, not, List, [], ◌∷◌, filter, Option, Some, None, nat_eq, int_lt, int_le, if◌then◌else◌}
 use Rattle.std.specs.Int.{int_div_euclid}
 use Rattle.int_program.specs.declared.program.IpBox.{IpBox}
 use Rattle.int_program.specs.declared.program.Part.{Part}

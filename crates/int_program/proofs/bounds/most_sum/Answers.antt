@@ -1,6 +1,5 @@
-use Rattle.std.proofs.Common.{arith, rules, FitsSigned, ◌≡◌, ◌+◌}
+use Rattle.std.proofs.Common.{arith, rules, FitsSigned}
 use Rattle.std.specs.Int.{w128}
-use Rattle.int_program.specs.Limits.{part_weight, weight}
 use Rattle.int_program.proofs.SumLaws.{no_part, most_more, weight_more, plus_fits, sum_turn}
 use Rattle.int_program.proofs.bounds.most_sum.Goals as goal
 

@@ -1,4 +1,4 @@
-use Rattle.std.proofs.Common.{List, ◌≡◌, ◌++◌, ◌∷◌, [], pos, map, take, sym, ap, ◌∙◌, ℤ, ◌+◌, rules}
+use Rattle.std.proofs.Common.{List, ◌++◌, ◌∷◌, [], pos, sym, ap, ◌∙◌, ℤ}
 use Rattle.std.proofs.lemmas.List.{map_more}
 use Rattle.int_program.proofs.bounds.root.Goals as goal
 

@@ -1,4 +1,4 @@
-use Rattle.std.proofs.Common.{pos, ◌≤ℤ◌, arith, rules, subst, sym}
+use Rattle.std.proofs.Common.{rules, subst}
 use Rattle.std.proofs.lemmas.List.Elements.{All-more}
 use Rattle.int_program.specs.Limits.{AreSmall}
 use Rattle.int_program.specs.declared.program.Row.{Row}

@@ -2,7 +2,6 @@ use Rattle.std.proofs.Common.{◌≡◌, FitsSigned, rules, arith, ◌^◌, ◌-
 use Rattle.std.proofs.lemmas.Int.{to_z-of_z}
 use Rattle.std.specs.Int.{w128}
 use Rattle.int_program.specs.Bounds.{least_of}
-use Rattle.int_program.specs.Limits.{weight}
 use Rattle.int_program.specs.Tightening.{factor, others}
 use Rattle.int_program.proofs.SumLaws.{fits_small}
 use Rattle.int_program.proofs.TightLaws.{tight_is}

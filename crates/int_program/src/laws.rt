@@ -1,0 +1,54 @@
+//! What an accepted tree of cases tells of a program: laws over the definitions, each the contract of an empty function.
+
+ghost use Rattle.std.specs.Prelude.{◌≡◌, ◌↔◌, ℕ, ℤ, pos, ◌<◌, ◌≤ℤ◌, List, Option, Some, None, All};
+ghost use Rattle.int_program.specs.declared.program.Ip.{Ip};
+ghost use Rattle.int_program.specs.declared.program.IpBox.{IpBox};
+ghost use Rattle.int_program.specs.declared.program.Tree.{Tree};
+ghost use Rattle.int_program.specs.declared.program.Weight.{Weight};
+ghost use Rattle.int_program.specs.Boxes.{IsNonempty, IsFromZero, IsInside, root_of};
+ghost use Rattle.int_program.specs.Limits.{AreSmall, IsInLimits};
+ghost use Rattle.int_program.specs.Points.{IsPoint, value_of};
+ghost use Rattle.int_program.specs.Weighted.{dual_bound, right_side, rows_least};
+ghost use Rattle.int_program.specs.Stopping.{tried_dual, tried_far};
+ghost use Rattle.int_program.specs.Accepts.{Accepts};
+ghost use Rattle.int_program.specs.Cases.{AreCases};
+ghost use Rattle.int_program.specs.Counting.{root_points, split_count, IsCutTree};
+
+/// A tree that is accepted for a value leaves no point with a greater value; one that is accepted for none leaves no point.
+pub fn accepted_trees_leave_no_better_point()
+    ensures value { (ip : Ip) (known : ℤ) (tree : Tree) → Accepts ip (Some known) tree → (x : List ℤ) → IsPoint ip x → value_of ip x ≤ℤ known }
+    ensures none { (ip : Ip) (tree : Tree) → Accepts ip None tree → (x : List ℤ) → IsPoint ip x → ⊥ }
+{}
+
+/// What is accepted for a value is accepted for each greater one, and what is accepted for none is accepted for each value.
+pub fn accepted_trees_stay_accepted()
+    ensures greater { (ip : Ip) (known more : ℤ) (tree : Tree) → known ≤ℤ more → Accepts ip (Some known) tree → Accepts ip (Some more) tree }
+    ensures none { (ip : Ip) (known : ℤ) (tree : Tree) → Accepts ip None tree → Accepts ip (Some known) tree }
+{}
+
+/// A tree has fewer splits than its root box has points, where it is accepted, and where its splits cut and its tightenings
+/// are accepted.
+pub fn trees_have_fewer_splits_than_points()
+    ensures accepted { (ip : Ip) (known : Option ℤ) (tree : Tree) → IsNonempty (root_of ip) → Accepts ip known tree → split_count tree.nodes < root_points ip }
+    ensures cut { (ip : Ip) (tree : Tree) → IsNonempty (root_of ip) → IsCutTree ip tree → split_count tree.nodes < root_points ip }
+{}
+
+/// The recursion on the list of nodes with the open boxes, and the recursion on the tree, accept the same.
+pub fn lists_and_trees_are_accepted_alike()
+    ensures { (ip : Ip) (known : Option ℤ) (tree : Tree) → Accepts ip known tree ↔ AreCases ip known tree }
+{}
+
+/// A sum of weighted rows that doesn't stop is the exact one.
+pub fn sums_that_do_not_stop_are_exact()
+    ensures dual { (ip : Ip) (b : IpBox) (over : ℤ) (ws : List Weight) (bound : ℤ) → tried_dual ip b over ws ≡ Some bound → bound ≡ dual_bound ip b over ws }
+    ensures far { (ip : Ip) (b : IpBox) (ws : List Weight) (sums : ℤ × ℤ) → tried_far ip b ws ≡ Some sums → (sums.0 ≡ right_side ip ws) × (sums.1 ≡ rows_least ip b ws) }
+{}
+
+/// In a program in its limits each row and the objective are small over each nonempty box inside the root box, as `least`, `most` and
+/// `tighten` want it; and the root box is such a box.
+pub fn boxes_inside_the_root_are_small()
+    ensures box_kept { (ip : Ip) (b : IpBox) → IsInside ip b → IsNonempty b × IsFromZero b }
+    ensures rows { (ip : Ip) (b : IpBox) → IsInLimits ip → IsInside ip b → All (λ row. AreSmall row.parts row.most b.high) ip.rows }
+    ensures goal { (ip : Ip) (b : IpBox) → IsInLimits ip → IsInside ip b → AreSmall ip.goal (pos 0) b.high }
+    ensures root { (ip : Ip) → IsInLimits ip → IsInside ip (root_of ip) }
+{}
