@@ -11,3 +11,5 @@ pub mod KnownLaws
 pub mod CaseLaws
 pub mod CountLaws
 pub mod InsideLaws
+pub mod FairLaws
+pub mod Examples

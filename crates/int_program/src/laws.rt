@@ -1,8 +1,9 @@
 //! What an accepted tree of cases tells of a program: laws over the definitions, each the contract of an empty function.
 
-ghost use Rattle.std.specs.Prelude.{◌≡◌, ◌↔◌, ℕ, ℤ, pos, ◌<◌, ◌≤ℤ◌, List, Option, Some, None, All};
+ghost use Rattle.std.specs.Prelude.{◌≡◌, ◌↔◌, ℕ, ℤ, pos, ◌<◌, ◌≤ℤ◌, List, length, Bool, true, false, Option, Some, None, All};
 ghost use Rattle.int_program.specs.declared.program.Ip.{Ip};
 ghost use Rattle.int_program.specs.declared.program.IpBox.{IpBox};
+ghost use Rattle.int_program.specs.declared.program.Node.{Node};
 ghost use Rattle.int_program.specs.declared.program.Tree.{Tree};
 ghost use Rattle.int_program.specs.declared.program.Weight.{Weight};
 ghost use Rattle.int_program.specs.Boxes.{IsNonempty, IsFromZero, IsInside, root_of};
@@ -12,7 +13,8 @@ ghost use Rattle.int_program.specs.Weighted.{dual_bound, right_side, rows_least}
 ghost use Rattle.int_program.specs.Stopping.{tried_dual, tried_far};
 ghost use Rattle.int_program.specs.Accepts.{Accepts};
 ghost use Rattle.int_program.specs.Cases.{AreCases};
-ghost use Rattle.int_program.specs.Counting.{root_points, split_count, IsCutTree};
+ghost use Rattle.int_program.specs.Counting.{root_points, split_count, IsCut, IsCutTree};
+ghost use Rattle.int_program.specs.Fair.{IsFairSplit, IsFair};
 
 /// A tree that is accepted for a value leaves no point with a greater value; one that is accepted for none leaves no point.
 pub fn accepted_trees_leave_no_better_point()
@@ -51,4 +53,11 @@ pub fn boxes_inside_the_root_are_small()
     ensures rows { (ip : Ip) (b : IpBox) → IsInLimits ip → IsInside ip b → All (λ row. AreSmall row.parts row.most b.high) ip.rows }
     ensures goal { (ip : Ip) (b : IpBox) → IsInLimits ip → IsInside ip b → AreSmall ip.goal (pos 0) b.high }
     ensures root { (ip : Ip) → IsInLimits ip → IsInside ip (root_of ip) }
+{}
+
+/// A fair split of a box with the program's variables cuts it, so that a tree of fair splits has fewer splits than points; and one that is fair
+/// where tightening is owed is fair where it isn't.
+pub fn fair_splits_cut()
+    ensures cut { (owed : Bool) (above : ℕ) (ip : Ip) (b : IpBox) (v : ℕ) (k : ℤ) → length b.low ≡ length ip.tops → IsFairSplit owed above ip b v k → IsCut b v k }
+    ensures owed { (above : ℕ) (ip : Ip) (known : Option ℤ) (b : IpBox) (node : Node) → IsFair true above ip known b node → IsFair false above ip known b node }
 {}
