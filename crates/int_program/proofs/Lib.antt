@@ -6,6 +6,7 @@ pub mod TightLaws
 pub mod KeepLaws
 pub mod WeightLaws
 pub mod StopLaws
+pub mod NumberLaws
 pub mod TreeLaws
 pub mod KnownLaws
 pub mod CaseLaws

@@ -84,10 +84,10 @@ most_at_end : (t : Bool) (c l h : ℤ) → cond t (c *ℤ l) (c *ℤ h) ≡ c *�
 most_at_end true c l h = refl
 most_at_end false c l h = refl
 
-form_most_step : (d : ℕ → ℤ) (b : IpBox) (n : ℕ) → form_most d b (suc n) ≡ form_most d b n +ℤ d n *ℤ most_end b (d n) n
+pub form_most_step : (d : ℕ → ℤ) (b : IpBox) (n : ℕ) → form_most d b (suc n) ≡ form_most d b n +ℤ d n *ℤ most_end b (d n) n
 form_most_step d b n = ap (λ (z : ℤ). form_most d b n +ℤ z) (most_at_end (int_lt (d n) (pos 0)) (d n) (at b.low n) (at b.high n))
 
-form_least_step : (d : ℕ → ℤ) (b : IpBox) (n : ℕ) → form_least d b (suc n) ≡ form_least d b n +ℤ d n *ℤ least_end b (d n) n
+pub form_least_step : (d : ℕ → ℤ) (b : IpBox) (n : ℕ) → form_least d b (suc n) ≡ form_least d b n +ℤ d n *ℤ least_end b (d n) n
 form_least_step d b n = ap (λ (z : ℤ). form_least d b n +ℤ z) (most_at_end (int_lt (d n) (pos 0)) (d n) (at b.high n) (at b.low n))
 
 pub dual_exact : (ip : Ip) (b : IpBox) (over : ℤ) (ws : List Weight) (bound : ℤ) → tried_dual ip b over ws ≡ Some bound → bound ≡ dual_bound ip b over ws

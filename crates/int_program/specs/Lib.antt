@@ -6,6 +6,7 @@ pub mod Tightening
 pub mod Points
 pub mod Weighted
 pub mod Stopping
+pub mod Numbers
 pub mod Accepts
 pub mod Cases
 pub mod Counting

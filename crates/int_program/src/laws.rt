@@ -11,6 +11,7 @@ ghost use Rattle.int_program.specs.Limits.{AreSmall, IsInLimits};
 ghost use Rattle.int_program.specs.Points.{IsPoint, value_of};
 ghost use Rattle.int_program.specs.Weighted.{dual_bound, right_side, rows_least};
 ghost use Rattle.int_program.specs.Stopping.{tried_dual, tried_far};
+ghost use Rattle.int_program.specs.Numbers.{dual_numbers, far_numbers, where_all_fit};
 ghost use Rattle.int_program.specs.Accepts.{Accepts};
 ghost use Rattle.int_program.specs.Cases.{AreCases};
 ghost use Rattle.int_program.specs.Counting.{root_points, split_count, IsCut, IsCutTree};
@@ -40,10 +41,10 @@ pub fn lists_and_trees_are_accepted_alike()
     ensures { (ip : Ip) (known : Option ℤ) (tree : Tree) → Accepts ip known tree ↔ AreCases ip known tree }
 {}
 
-/// A sum of weighted rows that doesn't stop is the exact one.
-pub fn sums_that_do_not_stop_are_exact()
-    ensures dual { (ip : Ip) (b : IpBox) (over : ℤ) (ws : List Weight) (bound : ℤ) → tried_dual ip b over ws ≡ Some bound → bound ≡ dual_bound ip b over ws }
-    ensures far { (ip : Ip) (b : IpBox) (ws : List Weight) (sums : ℤ × ℤ) → tried_far ip b ws ≡ Some sums → (sums.0 ≡ right_side ip ws) × (sums.1 ≡ rows_least ip b ws) }
+/// A sum of weighted rows stops exactly where one of its numbers leaves the signed 128 bits, and is the exact one otherwise.
+pub fn sums_stop_where_a_number_is_too_wide()
+    ensures dual { (ip : Ip) (b : IpBox) (over : ℤ) (ws : List Weight) → tried_dual ip b over ws ≡ where_all_fit (dual_numbers ip b over ws) (dual_bound ip b over ws) }
+    ensures far { (ip : Ip) (b : IpBox) (ws : List Weight) → tried_far ip b ws ≡ where_all_fit (far_numbers ip b ws) (right_side ip ws, rows_least ip b ws) }
 {}
 
 /// In a program in its limits each row and the objective are small over each nonempty box inside the root box, as `least`, `most` and

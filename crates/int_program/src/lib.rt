@@ -13,7 +13,7 @@ pub use bounds::{least, most, root};
 pub use laws::{
     accepted_trees_leave_no_better_point, accepted_trees_stay_accepted,
     boxes_inside_the_root_are_small, fair_splits_cut, lists_and_trees_are_accepted_alike,
-    sums_that_do_not_stop_are_exact, trees_have_fewer_splits_than_points,
+    sums_stop_where_a_number_is_too_wide, trees_have_fewer_splits_than_points,
 };
 pub use limits::is_in_limits;
 pub use program::{Ip, IpBox, Node, Part, Point, Row, Tree, Weight, Why};
