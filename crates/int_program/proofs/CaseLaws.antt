@@ -36,6 +36,12 @@ record HasCases (ip : Ip) (known : Option ℤ) (b : IpBox) (bs : List IpBox) (no
 shorter : (nodes rest : List Node) (c : Cases) → nodes ≡ preorder c ++ rest → length rest < suc (length nodes)
 shorter nodes rest c e = omega (arith, ap length e, length-append (preorder c) rest)
 
+joined : (node : Node) (nodes rest last : List Node) (c d : Cases) → nodes ≡ preorder c ++ rest → rest ≡ preorder d ++ last → node ∷ nodes ≡ node ∷ ((preorder c ++ preorder d) ++ last)
+joined node nodes rest last c d e f =
+    let back : preorder c ++ (preorder d ++ last) ≡ (preorder c ++ preorder d) ++ last = sym (append_assoc (preorder c) (preorder d) last) in
+    let more : preorder c ++ rest ≡ preorder c ++ (preorder d ++ last) = ap (λ ns. preorder c ++ ns) f in
+    ap (λ ns. node ∷ ns) (e ∙ more ∙ back)
+
 cases_from_leads : (fuel : ℕ) (ip : Ip) (known : Option ℤ) (b : IpBox) (bs : List IpBox) (nodes : List Node) → length nodes < fuel → Leads ip (IsAccepted ip known) (b ∷ bs) nodes [] → HasCases ip known b bs nodes
 cases_from_leads zero ip known b bs nodes l c = absurd (omega arith)
 cases_from_leads (suc fuel) ip known b bs [] l c = cc
@@ -46,7 +52,7 @@ cases_from_leads (suc fuel) ip known b bs (Split v k ∷ nodes) l c =
     record {
       cases = split v k s.cases t.cases;
       rest = t.rest;
-      is = ap (λ ns. Split v k ∷ ns) (s.is ∙ ap (λ ns. preorder s.cases ++ ns) t.is ∙ sym (append_assoc (preorder s.cases) (preorder t.cases) t.rest));
+      is = joined (Split v k) nodes s.rest t.rest s.cases t.cases s.is t.is;
       accepted = (c.0, s.accepted, t.accepted);
       leads = t.leads;
     }

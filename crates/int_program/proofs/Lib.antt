@@ -3,9 +3,9 @@ pub mod SumLaws
 pub mod BoundLaws
 pub mod LimitLaws
 pub mod TightLaws
+pub mod NarrowLaws
 pub mod KeepLaws
 pub mod WeightLaws
-pub mod StopLaws
 pub mod NumberLaws
 pub mod TreeLaws
 pub mod KnownLaws

@@ -1,9 +1,10 @@
 -- The sums stop exactly where one of their numbers leaves 128 bits.
-use Rattle.std.proofs.Common.{◌≡◌, ℕ, zero, suc, ℤ, pos, ◌+ℤ◌, ◌-ℤ◌, ◌*ℤ◌, Bool, true, false, cond, ◌&&◌, List, [], ◌∷◌, ◌++◌, length, Option, Some, None, slice_get, arith, refl, sym, ap, ◌∙◌}
+use Rattle.std.proofs.Common.{◌≡◌, ℕ, zero, suc, ℤ, pos, ◌+ℤ◌, ◌-ℤ◌, ◌*ℤ◌, Bool, true, false, cond, ◌&&◌, List, [], ◌∷◌, ◌++◌, length, Option, Some, None, int_lt, slice_get, arith, refl, sym, ap, ◌∙◌}
 use Rattle.std.proofs.lemmas.Int.{ints}
 use Rattle.std.proofs.lemmas.List.Folds.{list_all-append}
 use Rattle.std.specs.List.{list_all}
 use Rattle.std.specs.Option.{option_and_then}
+use Rattle.int_program.specs.Sums.{at}
 use Rattle.int_program.specs.Tightening.{factor}
 use Rattle.int_program.specs.Weighted.{number_of, weighted, right_side, rows_factor, rest_factor, form_most, form_least, dual_bound, rows_least}
 use Rattle.int_program.specs.Stopping.{fits, tried, tried_plus, tried_minus, tried_weighted, tried_right, tried_rest, tried_rows, tried_form, most_end, least_end, tried_dual, tried_far}
@@ -12,7 +13,6 @@ use Rattle.int_program.specs.declared.program.Ip.{Ip}
 use Rattle.int_program.specs.declared.program.IpBox.{IpBox}
 use Rattle.int_program.specs.declared.program.Row.{Row}
 use Rattle.int_program.specs.declared.program.Weight.{Weight}
-use Rattle.int_program.proofs.StopLaws.{form_most_step, form_least_step}
 
 abbrev gate : {A : Type 0} → Bool → A → Option A
 gate t z = cond t (Some z) None
@@ -78,6 +78,17 @@ rest_factor_gate ip over ws v =
     let first = over *ℤ factor ip.goal v in
     then_gate (fits first) (list_all fits (rest_numbers (λ row. factor row.parts v) ip.rows first ws)) first (rest_factor ip over ws v) (λ (c : ℤ). tried_weighted tried_minus (λ row. factor row.parts v) ip.rows c ws) (rest_gate (λ row. factor row.parts v) ip.rows ws first)
 
+-- a form's next variable
+most_at_end : (t : Bool) (c l h : ℤ) → cond t (c *ℤ l) (c *ℤ h) ≡ c *ℤ cond t l h
+most_at_end true c l h = refl
+most_at_end false c l h = refl
+
+form_most_step : (d : ℕ → ℤ) (b : IpBox) (n : ℕ) → form_most d b (suc n) ≡ form_most d b n +ℤ d n *ℤ most_end b (d n) n
+form_most_step d b n = ap (λ (z : ℤ). form_most d b n +ℤ z) (most_at_end (int_lt (d n) (pos 0)) (d n) (at b.low n) (at b.high n))
+
+form_least_step : (d : ℕ → ℤ) (b : IpBox) (n : ℕ) → form_least d b (suc n) ≡ form_least d b n +ℤ d n *ℤ least_end b (d n) n
+form_least_step d b n = ap (λ (z : ℤ). form_least d b n +ℤ z) (most_at_end (int_lt (d n) (pos 0)) (d n) (at b.high n) (at b.low n))
+
 -- the numbers of one variable behind those of the earlier ones
 all_three : (xs ys : List ℤ) (p q : ℤ) → list_all fits (xs ++ (ys ++ (p ∷ q ∷ []))) ≡ (list_all fits xs && (list_all fits ys && (fits p && fits q)))
 all_three xs ys p q =
@@ -128,3 +139,18 @@ far_gate ip b ws =
     and_true : (t : Bool) → (t && true) ≡ t
     and_true true = refl
     and_true false = refl
+
+-- a sum that doesn't stop is the exact one
+gate_is : {A : Type 0} (t : Bool) (z r : A) → gate t z ≡ Some r → r ≡ z
+gate_is true z r h = cc
+gate_is false z r h = cc
+
+pub dual_exact : (ip : Ip) (b : IpBox) (over : ℤ) (ws : List Weight) (bound : ℤ) → tried_dual ip b over ws ≡ Some bound → bound ≡ dual_bound ip b over ws
+dual_exact ip b over ws bound e =
+    gate_is (list_all fits (dual_numbers ip b over ws)) (dual_bound ip b over ws) bound (sym (dual_gate ip b over ws) ∙ e)
+
+pub far_exact : (ip : Ip) (b : IpBox) (ws : List Weight) (sums : ℤ × ℤ) → tried_far ip b ws ≡ Some sums → (sums.0 ≡ right_side ip ws) × (sums.1 ≡ rows_least ip b ws)
+far_exact ip b ws sums e =
+    let exact : ℤ × ℤ = (right_side ip ws, rows_least ip b ws) in
+    let same : sums ≡ exact = gate_is (list_all fits (far_numbers ip b ws)) exact sums (sym (far_gate ip b ws) ∙ e) in
+    (ap (λ (p : ℤ × ℤ). p.0) same, ap (λ (p : ℤ × ℤ). p.1) same)

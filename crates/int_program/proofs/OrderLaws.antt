@@ -49,3 +49,34 @@ quotient_le z (negsuc k) v p h =
     let parts = div_parts z (suc k) (omega arith) in
     let above : v <ℤ neg_ℤ q → up v + up q + 1 ≤ down v + down q = λ l. omega (arith, ints) in
     rw (div_by_negative z k) (by_lt_z v (neg_ℤ q) (λ l. absurd (omega (arith, ints, parts, mul-le-mul_left (suc k) (above l)))) (λ r. r))
+
+-- and the other way round
+quotient_times : (z a : ℤ) → pos 0 <ℤ a → (a *ℤ int_div_euclid z a) ≤ℤ z
+quotient_times z (negsuc k) h = absurd (omega (arith, ints))
+quotient_times z (pos k) h =
+    let some : 0 < k = omega (arith, ints) in
+    omega (arith, ints, div_parts z k some)
+
+opposite : (k : ℕ) (q v : ℤ) → up v + up q ≡ down v + down q → negsuc k *ℤ v ≡ pos (suc k) *ℤ q
+opposite k q v h =
+    let e = ap (λ t. t * suc k) h in
+    omega (arith, ints)
+
+quotient_times_negative : (z a : ℤ) → a <ℤ pos 0 → (a *ℤ int_div_euclid z a) ≤ℤ z
+quotient_times_negative z (pos k) h = absurd (omega (arith, ints))
+quotient_times_negative z (negsuc k) h =
+    let q = int_div_euclid z (pos (suc k)) in
+    let sides : up (neg_ℤ q) + up q ≡ down (neg_ℤ q) + down q = omega (arith, ints) in
+    rw (div_by_negative z k) (rw (opposite k q (neg_ℤ q) sides) (quotient_times z (pos (suc k)) (omega (arith, ints))))
+
+pub times_le_from : (z a v : ℤ) → pos 0 <ℤ a → v ≤ℤ int_div_euclid z a → (a *ℤ v) ≤ℤ z
+times_le_from z a v h k =
+    let more = mul_mono a v (int_div_euclid z a) (omega (arith, ints)) k in
+    let most = quotient_times z a h in
+    omega (arith, ints)
+
+pub times_le_negative : (z a v : ℤ) → a <ℤ pos 0 → int_div_euclid z a ≤ℤ v → (a *ℤ v) ≤ℤ z
+times_le_negative z a v h k =
+    let more = mul_anti a (int_div_euclid z a) v h k in
+    let most = quotient_times_negative z a h in
+    omega (arith, ints)

@@ -25,7 +25,7 @@ use Rattle.int_program.proofs.OrderLaws.{le_quotient}
 use Rattle.int_program.proofs.BoundLaws.{least_of_le, most_of_ge, at_set}
 use Rattle.int_program.proofs.KeepLaws.{tight_keeps}
 use Rattle.int_program.proofs.WeightLaws.{value_le_dual, rows_ge_least}
-use Rattle.int_program.proofs.StopLaws.{dual_exact, far_exact}
+use Rattle.int_program.proofs.NumberLaws.{dual_exact, far_exact}
 
 -- a test that decides between no fault and a fault
 pub test_from_none : {W : Type 0} (t : Bool) (w : W) → cond t None (Some w) ≡ None → t ≡ true

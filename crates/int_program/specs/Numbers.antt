@@ -1,12 +1,12 @@
 -- The numbers that the sums of weighted rows are made of, as exact numbers in the order in which they are taken; this project's own.
-use Rattle.std.specs.Prelude.{ℕ, zero, suc, ℤ, pos, ◌+ℤ◌, ◌-ℤ◌, ◌*ℤ◌, Bool, List, [], ◌∷◌, ◌++◌, length, Option, Some, None, slice_get, if◌then◌else◌}
+use Rattle.std.specs.Prelude.{ℕ, zero, suc, ℤ, pos, ◌+ℤ◌, ◌-ℤ◌, ◌*ℤ◌, List, [], ◌∷◌, ◌++◌, length, Option, Some, None, slice_get, if◌then◌else◌}
 use Rattle.std.specs.List.{list_all}
 use Rattle.int_program.specs.declared.program.Ip.{Ip}
 use Rattle.int_program.specs.declared.program.IpBox.{IpBox}
 use Rattle.int_program.specs.declared.program.Row.{Row}
 use Rattle.int_program.specs.declared.program.Weight.{Weight}
 use Rattle.int_program.specs.Tightening.{factor}
-use Rattle.int_program.specs.Weighted.{number_of, right_side, rows_factor, rest_factor, form_most, form_least, dual_bound, rows_least}
+use Rattle.int_program.specs.Weighted.{number_of, right_side, rows_factor, rest_factor, form_most, form_least, dual_bound}
 use Rattle.int_program.specs.Stopping.{fits, most_end, least_end}
 
 -- for each weight in the written order its product, and the sum after it
@@ -45,7 +45,7 @@ dual_numbers ip b over ws =
     let c = rest_factor ip over ws in
     sum_numbers (λ row. row.most) ip.rows (pos 0) ws
     ++ (form_numbers (rest_factor_numbers ip over ws) (λ v. c v *ℤ most_end b (c v) v) (λ n. right_side ip ws +ℤ form_most c b n) (length ip.tops)
-        ++ ((over *ℤ ip.base) ∷ dual_bound ip b over ws ∷ []))
+    ++ ((over *ℤ ip.base) ∷ dual_bound ip b over ws ∷ []))
 
 -- the numbers of a `Far` node: those of the right sides; for each variable those of its coefficient, its product with the end and
 -- the sum, which begins anew

@@ -1,5 +1,5 @@
 -- What a row leaves to one variable of a box; this project's own.
-use Rattle.std.specs.Prelude.{ℕ, ℤ, pos, ◌+ℤ◌, ◌-ℤ◌, neg_ℤ, ◌&&◌, not, List, [], ◌∷◌, filter, Option, Some, None, nat_eq, int_lt, int_le, if◌then◌else◌}
+use Rattle.std.specs.Prelude.{ℕ, ℤ, pos, ◌+ℤ◌, ◌-ℤ◌, neg_ℤ, ◌&&◌, not, List, [], ◌∷◌, filter, Option, Some, None, nat_eq, int_lt, int_le, if◌then◌else◌, ◌*ℤ◌, ◌≤ℤ◌, ◌<ℤ◌, ◌⊎◌, ◌↔◌}
 use Rattle.std.specs.Int.{int_div_euclid}
 use Rattle.int_program.specs.declared.program.IpBox.{IpBox}
 use Rattle.int_program.specs.declared.program.Part.{Part}
@@ -41,3 +41,19 @@ abbrev pub tight_ends : Row → ℕ → IpBox → Option (ℤ × ℤ)
 tight_ends row v b =
     let a = factor row.parts v in
     shrunk a (at b.low v) (at b.high v) (ceiling (left_over row v b) a) (floor (left_over row v b) a)
+
+-- a number of the variable with which the row can hold: its part, with coefficient a, is at most what is left over for it
+abbrev pub CanHold : ℤ → ℤ → ℤ → Type 0
+CanHold a rest z = (a *ℤ z) ≤ℤ rest
+
+-- new ends that leave fewer numbers between them than the old ones, but some, and exactly those with which the row can hold
+pub record IsNarrowed (a rest low high : ℤ) (ends : ℤ × ℤ) : Type 0 where
+  pub smaller : (low <ℤ ends.0) ⊎ (ends.1 <ℤ high)
+  pub some : ends.0 ≤ℤ ends.1
+  pub exact : (z : ℤ) → low ≤ℤ z → z ≤ℤ high → CanHold a rest z ↔ ((ends.0 ≤ℤ z) × (z ≤ℤ ends.1))
+
+-- new ends like these; or none, where the row can hold with each number between the old ends, or with none of them
+abbrev pub IsTightened : ℤ → ℤ → ℤ → ℤ → Option (ℤ × ℤ) → Type 0
+IsTightened a rest low high (Some ends) = IsNarrowed a rest low high ends
+IsTightened a rest low high None =
+    ((z : ℤ) → low ≤ℤ z → z ≤ℤ high → CanHold a rest z) ⊎ ((z : ℤ) → low ≤ℤ z → z ≤ℤ high → CanHold a rest z → ⊥)

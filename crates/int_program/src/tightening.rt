@@ -6,7 +6,7 @@ ghost use Rattle.int_program.specs.Sums.{at};
 ghost use Rattle.int_program.specs.Boxes.{IsNonempty, IsFromZero};
 ghost use Rattle.int_program.specs.Bounds.{least_of, part_least};
 ghost use Rattle.int_program.specs.Limits.{part_weight, weight, AreSmall};
-ghost use Rattle.int_program.specs.Tightening.{factor, others, shrunk, tight_ends};
+ghost use Rattle.int_program.specs.Tightening.{factor, left_over, others, shrunk, tight_ends, IsTightened};
 
 use crate::bounds::least_part;
 use crate::program::{IpBox, Part, Row};
@@ -107,10 +107,8 @@ fn shrunk_at(within: &IpBox, var: u32, factor: i128, end: i128) -> Option<(i128,
     )
 }
 
-/// The variable's low and high end after the row, or none where they don't shrink or nothing would be left.
-///
-/// The variable is one of the box, and the condition on row and box is that of `least`.
-pub fn tighten(row: &Row, var: u32, within: &IpBox) -> Option<(i128, i128)>
+/// The ends of the variable that the row leaves.
+fn ends_left(row: &Row, var: u32, within: &IpBox) -> Option<(i128, i128)>
     requires nonempty { IsNonempty within.now }
     requires from_zero { IsFromZero within.now }
     requires small { AreSmall row.now.parts row.now.most within.now.high }
@@ -124,4 +122,18 @@ pub fn tighten(row: &Row, var: u32, within: &IpBox) -> Option<(i128, i128)>
     let least = least_of_others(row.parts.as_slice(), var, within);
     let end = rounded(row.most, least, factor);
     shrunk_at(within, var, factor, end)
+}
+
+/// The variable's low and high end after the row, or none where they don't shrink or nothing would be left.
+///
+/// The variable is one of the box, and the condition on row and box is that of `least`.
+pub fn tighten(row: &Row, var: u32, within: &IpBox) -> Option<(i128, i128)>
+    requires nonempty { IsNonempty within.now }
+    requires from_zero { IsFromZero within.now }
+    requires small { AreSmall row.now.parts row.now.most within.now.high }
+    requires var { var < length within.now.high }
+    ensures value { result ≡ tight_ends row.now var within.now }
+    ensures exact { IsTightened (factor row.now.parts var) (left_over row.now var within.now) (at within.now.low var) (at within.now.high var) result }
+{
+    ends_left(row, var, within)
 }
