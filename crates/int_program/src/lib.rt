@@ -15,6 +15,6 @@ pub use laws::{
     boxes_inside_the_root_are_small, fair_splits_cut, lists_and_trees_are_accepted_alike,
     sums_stop_where_a_number_is_too_wide, trees_have_fewer_splits_than_points,
 };
-pub use limits::is_in_limits;
+pub use limits::{are_small, is_in_limits, is_nonempty};
 pub use program::{Ip, IpBox, Node, Part, Point, Row, Tree, Weight, Why};
 pub use tightening::tighten;

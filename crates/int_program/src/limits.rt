@@ -1,9 +1,10 @@
 //! The limits within which no sum of a row or of the objective leaves 128 bits.
 
 ghost use Rattle.std.specs.Prelude.{◌≡◌, ◌↔◌, ℕ, ℤ, pos, ◌*◌, ◌+◌, ◌^◌, ◌<◌, ◌-◌, ◌≤◌, ◌≤ℤ◌, length, unsigned_abs, min, max, All, IsTrue};
+ghost use Rattle.int_program.specs.Boxes.{IsNonempty, IsFromZero};
 ghost use Rattle.int_program.specs.Limits.{part_weight, weight, IsRising, AreSmall, IsInLimits};
 
-use crate::program::{Ip, Part, Row};
+use crate::program::{Ip, IpBox, Part, Row};
 
 /// Whether the part names a variable from `next` on, one of the first `count`.
 fn is_next(part: &Part, next: u64, count: usize) -> bool
@@ -50,8 +51,9 @@ fn is_light(parts: &[Part], beside: i128, tops: &[i128]) -> bool
     sum < 1 << 100
 }
 
-/// Whether the parts are small and name each variable once at most.
-fn are_small(parts: &[Part], beside: i128, tops: &[i128]) -> bool
+/// Whether the parts are small together with a number beside them, and name variables that have a top, each once at most, by
+/// rising number: the condition of `least`, `most` and `tighten` on parts, over the box's high ends.
+pub fn are_small(parts: &[Part], beside: i128, tops: &[i128]) -> bool
     ensures { IsTrue result ↔ AreSmall parts.now beside tops.now }
 {
     are_rising(parts, tops.len()) && is_light(parts, beside, tops)
@@ -74,6 +76,24 @@ fn is_row_small(row: &Row, tops: &[i128]) -> bool
     ensures { IsTrue result ↔ AreSmall row.now.parts row.now.most tops.now }
 {
     are_small(row.parts.as_slice(), row.most, tops)
+}
+
+/// Whether each variable has two ends, the low one isn't below 0, and the high one isn't below the low one: the condition of `least`,
+/// `most` and `tighten` on boxes.
+pub fn is_nonempty(within: &IpBox) -> bool
+    ensures { IsTrue result ↔ (IsNonempty within.now × IsFromZero within.now) }
+{
+    let low = within.low.as_slice();
+    let high = within.high.as_slice();
+    if low.len() != high.len() {
+        return false;
+    }
+    for i in 0..low.len() {
+        if low[i] < 0 || high[i] < low[i] {
+            return false;
+        }
+    }
+    true
 }
 
 /// Whether each row is small.

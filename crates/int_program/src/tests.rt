@@ -1,10 +1,15 @@
 //! Programs built by hand, with values worked by hand.
 
-use crate::{Ip, IpBox, Part, Row, is_in_limits, least, most, root, tighten};
+use crate::{
+    Ip, IpBox, Part, Row, are_small, is_in_limits, is_nonempty, least, most, root, tighten,
+};
 use elx_bits::Items;
 use std::alloc::{AllocError, Global};
 use std::process::Abort;
 use std::test::Fail;
+
+/// Half of the limit of a row's weighted sum.
+const HALF: i128 = 1 << 99;
 
 /// A part as the tests below write it: its variable and its coefficient.
 type Given = (u32, i128);
@@ -53,6 +58,37 @@ fn ip(
     })
 }
 
+/// The least and the greatest value, where box and row meet the conditions.
+fn bounds(given: &Row, within: &IpBox) -> Option<(i128, i128)> {
+    let parts = given.parts.as_slice();
+    let high = within.high.as_slice();
+    if !is_nonempty(within) {
+        return None;
+    }
+    if !are_small(parts, given.most, high) {
+        return None;
+    }
+    if !are_small(parts, 0, high) {
+        return None;
+    }
+    Some((least(given, within), most(parts, within)))
+}
+
+/// The tightened ends, where box, row and variable meet the conditions.
+fn tightened(given: &Row, var: u32, within: &IpBox) -> Option<Option<(i128, i128)>> {
+    let high = within.high.as_slice();
+    if !is_nonempty(within) {
+        return None;
+    }
+    if !are_small(given.parts.as_slice(), given.most, high) {
+        return None;
+    }
+    if var as usize >= high.len() {
+        return None;
+    }
+    Some(tighten(given, var, within))
+}
+
 #[test]
 fn the_root_goes_from_zero_to_the_tops(rt: HostRuntime) -> Result<(), Fail> {
     for (tops, low) in [
@@ -80,8 +116,7 @@ fn least_and_most_take_the_ends_that_the_signs_ask_for(rt: HostRuntime) -> Resul
         ([(1, 0)].as_slice(), 0, 0),
     ] {
         let given = row(rt.alloc(), given, 0)?;
-        assert_eq!(rt; least(&given, &within), low);
-        assert_eq!(rt; most(given.parts.as_slice(), &within), high);
+        assert_eq!(rt; bounds(&given, &within), Some((low, high)));
     }
     Ok(())
 }
@@ -90,9 +125,8 @@ fn least_and_most_take_the_ends_that_the_signs_ask_for(rt: HostRuntime) -> Resul
 fn on_a_box_of_one_point_least_and_most_are_the_sum_there(rt: HostRuntime) -> Result<(), Fail> {
     let within = boxed(rt.alloc(), &[3, 1, 2], &[3, 1, 2])?;
     let given = row(rt.alloc(), &[(0, 2), (1, -5), (2, 1)], 0)?;
-    assert_eq!(rt; least(&given, &within), 3);
-    assert_eq!(rt; most(given.parts.as_slice(), &within), 3);
-    assert_eq!(rt; tighten(&given, 1, &within), None);
+    assert_eq!(rt; bounds(&given, &within), Some((3, 3)));
+    assert_eq!(rt; tightened(&given, 1, &within), Some(None));
     Ok(())
 }
 
@@ -113,7 +147,7 @@ fn tighten_rounds_the_high_end_down(rt: HostRuntime) -> Result<(), Fail> {
         ([(0, 2), (1, -4)].as_slice(), -5, 0, Some((1, 3))),
     ] {
         let given = row(rt.alloc(), given, right)?;
-        assert_eq!(rt; tighten(&given, var, &within), ends);
+        assert_eq!(rt; tightened(&given, var, &within), Some(ends));
     }
     Ok(())
 }
@@ -131,64 +165,54 @@ fn tighten_rounds_the_low_end_up(rt: HostRuntime) -> Result<(), Fail> {
         ([(0, 1), (1, -3), (2, 4)].as_slice(), 2, 1, Some((3, 3))),
     ] {
         let given = row(rt.alloc(), given, right)?;
-        assert_eq!(rt; tighten(&given, var, &within), ends);
+        assert_eq!(rt; tightened(&given, var, &within), Some(ends));
     }
     Ok(())
 }
 
 #[test]
-fn the_limits_hold_up_to_the_last_number(rt: HostRuntime) -> Result<(), Fail> {
-    let half = 1 << 99;
-    for (given, right, goal, base, want) in [
-        ([].as_slice(), 0, [].as_slice(), 0, true),
-        (
-            [(0, 1), (1, -2)].as_slice(),
-            3,
-            [(1, 1)].as_slice(),
-            -4,
-            true,
-        ),
-        // a variable that isn't there, twice, or out of order
-        ([(2, 1)].as_slice(), 0, [].as_slice(), 0, false),
-        ([(1, 1), (1, -1)].as_slice(), 0, [].as_slice(), 0, false),
-        ([(1, 1), (0, 1)].as_slice(), 0, [].as_slice(), 0, false),
-        ([].as_slice(), 0, [(2, 1)].as_slice(), 0, false),
-        ([].as_slice(), 0, [(0, 1), (0, 1)].as_slice(), 0, false),
-        // the tops are 1 and 0, which both count as 1
-        ([(0, half)].as_slice(), half - 1, [].as_slice(), 0, true),
-        ([(0, half)].as_slice(), half, [].as_slice(), 0, false),
-        ([(1, -half)].as_slice(), 1 - half, [].as_slice(), 0, true),
-        ([(1, -half)].as_slice(), -half, [].as_slice(), 0, false),
-        ([].as_slice(), 2 * half, [].as_slice(), 0, false),
-        (
-            [].as_slice(),
-            0,
-            [(0, half), (1, half - 1)].as_slice(),
-            0,
-            true,
-        ),
-        (
-            [].as_slice(),
-            0,
-            [(0, half), (1, half - 1)].as_slice(),
-            -1,
-            false,
-        ),
-        (
-            [(0, i128::MIN)].as_slice(),
-            i128::MIN,
-            [].as_slice(),
-            0,
-            false,
-        ),
+fn parts_name_variables_once_by_rising_number(rt: HostRuntime) -> Result<(), Fail> {
+    for (given, goal, want) in [
+        ([].as_slice(), [].as_slice(), true),
+        ([(0, 1), (1, -2)].as_slice(), [(1, 1)].as_slice(), true),
+        ([(2, 1)].as_slice(), [].as_slice(), false),
+        ([(1, 1), (1, -1)].as_slice(), [].as_slice(), false),
+        ([(1, 1), (0, 1)].as_slice(), [].as_slice(), false),
+        ([].as_slice(), [(2, 1)].as_slice(), false),
+        ([].as_slice(), [(0, 1), (0, 1)].as_slice(), false),
     ] {
-        let program = ip(
-            rt.alloc(),
-            &[1, 0],
-            row(rt.alloc(), given, right)?,
-            goal,
-            base,
-        )?;
+        let given = row(rt.alloc(), given, 3)?;
+        let program = ip(rt.alloc(), &[1, 0], given, goal, -4)?;
+        assert_eq!(rt; is_in_limits(&program), want);
+    }
+    Ok(())
+}
+
+/// The tops are 1 and 0, which both count as 1; the limit is twice HALF.
+#[test]
+fn rows_are_small_up_to_the_last_number(rt: HostRuntime) -> Result<(), Fail> {
+    for (given, right, want) in [
+        ([(0, HALF)].as_slice(), HALF - 1, true),
+        ([(0, HALF)].as_slice(), HALF, false),
+        ([(1, -HALF)].as_slice(), 1 - HALF, true),
+        ([(1, -HALF)].as_slice(), -HALF, false),
+        ([].as_slice(), 2 * HALF - 1, true),
+        ([].as_slice(), 2 * HALF, false),
+        ([(0, i128::MIN)].as_slice(), i128::MIN, false),
+    ] {
+        let given = row(rt.alloc(), given, right)?;
+        let program = ip(rt.alloc(), &[1, 0], given, &[], 0)?;
+        assert_eq!(rt; is_in_limits(&program), want);
+    }
+    Ok(())
+}
+
+#[test]
+fn the_objective_is_small_together_with_its_constant(rt: HostRuntime) -> Result<(), Fail> {
+    for (base, want) in [(0, true), (-1, false), (1, false)] {
+        let given = row(rt.alloc(), &[], 0)?;
+        let goal = [(0, HALF), (1, HALF - 1)];
+        let program = ip(rt.alloc(), &[1, 0], given, &goal, base)?;
         assert_eq!(rt; is_in_limits(&program), want);
     }
     Ok(())
@@ -227,5 +251,20 @@ fn tops_are_not_negative_and_not_too_many(rt: HostRuntime) -> Result<(), Fail> {
         0,
     )?;
     assert_eq!(rt; is_in_limits(&over), false);
+    Ok(())
+}
+
+#[test]
+fn a_nonempty_box_has_two_ends_in_order_for_each_variable(rt: HostRuntime) -> Result<(), Fail> {
+    for (low, high, want) in [
+        ([].as_slice(), [].as_slice(), true),
+        ([0, 2].as_slice(), [0, 3].as_slice(), true),
+        ([0, 2].as_slice(), [0].as_slice(), false),
+        ([0, 2].as_slice(), [0, 1].as_slice(), false),
+        ([0, -1].as_slice(), [0, 3].as_slice(), false),
+    ] {
+        let within = boxed(rt.alloc(), low, high)?;
+        assert_eq!(rt; is_nonempty(&within), want);
+    }
     Ok(())
 }
