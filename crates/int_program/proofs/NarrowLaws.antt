@@ -21,7 +21,7 @@ both false t e f h = cc
 narrow_high : (a rest low high d : ℤ) → ((z : ℤ) → CanHold a rest z → z ≤ℤ d) → ((z : ℤ) → z ≤ℤ d → CanHold a rest z) → (t : Bool) → (int_le low d && int_lt d high) ≡ t → IsTightened a rest low high (cond t (Some (low, d)) None)
 narrow_high a rest low high d to from true e =
     let p = and_parts (int_le low d) (int_lt d high) e in
-    record { smaller = inr (omega (arith, ints)); some = omega (arith, ints); exact = λ z l h. (λ k. (l, to z k), λ k. from z k.1) }
+    record { within = (omega (arith, ints), omega (arith, ints)); smaller = inr (omega (arith, ints)); some = omega (arith, ints); exact = λ z l h. (λ k. (l, to z k), λ k. from z k.1) }
 narrow_high a rest low high d to from false e =
     by_lt_z d low
     (λ l. inr (λ z m h k. let most = to z k in absurd (omega (arith, ints))))
@@ -34,7 +34,7 @@ narrow_high a rest low high d to from false e =
 narrow_low : (a rest low high u : ℤ) → ((z : ℤ) → CanHold a rest z → u ≤ℤ z) → ((z : ℤ) → u ≤ℤ z → CanHold a rest z) → (t : Bool) → (int_lt low u && int_le u high) ≡ t → IsTightened a rest low high (cond t (Some (u, high)) None)
 narrow_low a rest low high u to from true e =
     let p = and_parts (int_lt low u) (int_le u high) e in
-    record { smaller = inl (omega (arith, ints)); some = omega (arith, ints); exact = λ z l h. (λ k. (to z k, h), λ k. from z k.0) }
+    record { within = (omega (arith, ints), omega (arith, ints)); smaller = inl (omega (arith, ints)); some = omega (arith, ints); exact = λ z l h. (λ k. (to z k, h), λ k. from z k.0) }
 narrow_low a rest low high u to from false e =
     by_lt_z high u
     (λ l. inr (λ z m h k. let most = to z k in absurd (omega (arith, ints))))

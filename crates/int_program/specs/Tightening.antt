@@ -46,8 +46,9 @@ tight_ends row v b =
 abbrev pub CanHold : ℤ → ℤ → ℤ → Type 0
 CanHold a rest z = (a *ℤ z) ≤ℤ rest
 
--- new ends that leave fewer numbers between them than the old ones, but some, and exactly those with which the row can hold
+-- new ends within the old ones that leave fewer numbers between them, but some, and exactly those with which the row can hold
 pub record IsNarrowed (a rest low high : ℤ) (ends : ℤ × ℤ) : Type 0 where
+  pub within : (low ≤ℤ ends.0) × (ends.1 ≤ℤ high)
   pub smaller : (low <ℤ ends.0) ⊎ (ends.1 <ℤ high)
   pub some : ends.0 ≤ℤ ends.1
   pub exact : (z : ℤ) → low ≤ℤ z → z ≤ℤ high → CanHold a rest z ↔ ((ends.0 ≤ℤ z) × (z ≤ℤ ends.1))

@@ -47,8 +47,8 @@ pub fn sums_stop_where_a_number_is_too_wide()
     ensures far { (ip : Ip) (b : IpBox) (ws : List Weight) → tried_far ip b ws ≡ where_all_fit (far_numbers ip b ws) (right_side ip ws, rows_least ip b ws) }
 {}
 
-/// In a program in its limits each row and the objective are small over each nonempty box inside the root box, as `least`, `most` and
-/// `tighten` want it; and the root box is such a box.
+/// In a program in its limits each row and the objective are small over each nonempty box inside the root box, as `least`, `most`
+/// and `tighten` want it; and the root box is such a box.
 pub fn boxes_inside_the_root_are_small()
     ensures box_kept { (ip : Ip) (b : IpBox) → IsInside ip b → IsNonempty b × IsFromZero b }
     ensures rows { (ip : Ip) (b : IpBox) → IsInLimits ip → IsInside ip b → All (λ row. AreSmall row.parts row.most b.high) ip.rows }
@@ -56,8 +56,8 @@ pub fn boxes_inside_the_root_are_small()
     ensures root { (ip : Ip) → IsInLimits ip → IsInside ip (root_of ip) }
 {}
 
-/// A fair split of a box with the program's variables cuts it, so that a tree of fair splits has fewer splits than points; and one that is fair
-/// where tightening is owed is fair where it isn't.
+/// A fair split of a box with the program's variables cuts it, so that a tree of fair splits has fewer splits than points; and a
+/// node that is fair where tightening is owed is fair where it isn't.
 pub fn fair_splits_cut()
     ensures cut { (owed : Bool) (above : ℕ) (ip : Ip) (b : IpBox) (v : ℕ) (k : ℤ) → length b.low ≡ length ip.tops → IsFairSplit owed above ip b v k → IsCut b v k }
     ensures owed { (above : ℕ) (ip : Ip) (known : Option ℤ) (b : IpBox) (node : Node) → IsFair true above ip known b node → IsFair false above ip known b node }
