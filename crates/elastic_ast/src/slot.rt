@@ -56,7 +56,7 @@ pub fn overwrite(slots: &mut [Slot], k: usize, value: Bits)
 
 /// Whether the slots of both lists are those of the same locations, in one order.
 pub fn in_one_order(slots: &[Slot], others: &[Slot]) -> bool
-    ensures { IsTrue result → places (entries slots.now) ≡ places (entries others.now) }
+    ensures { IsTrue result ↔ (places (entries slots.now) ≡ places (entries others.now)) }
 {
     if slots.len() != others.len() {
         return false;

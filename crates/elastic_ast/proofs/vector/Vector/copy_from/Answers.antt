@@ -8,7 +8,7 @@ use Rattle.elastic_ast.proofs.vector.Vector.copy_from.Goals as goal
 
 pub returns-then-in_one_order-clause-same : goal.returns-then-in_one_order-clause-same
 returns-then-in_one_order-clause-same c =
-    let order = rw (c.deref.ensures.value, c.deref-2.ensures.value) at (c.in_one_order.ensures c.if-in_one_order.true) in
+    let order = rw (c.deref.ensures.value, c.deref-2.ensures.value) at (c.in_one_order.ensures.0 c.if-in_one_order.true) in
     (λ _. one_order_same c.self.inside.slots.items c.from.inside.slots.items c.args.self.now c.args.from.now c.self.view_is c.from.view_is order, λ _. refl)
 
 pub invariant_of-self-2 : goal.invariant_of-self-2
