@@ -17,3 +17,9 @@ pub mod RegisterLists
 pub mod KeyHash
 pub mod BitWords
 pub mod KeptRegisters
+pub mod Operators
+pub mod LookUps
+pub mod Types
+pub mod Memory
+pub mod Values
+pub mod WorkedValues

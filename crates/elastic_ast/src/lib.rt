@@ -5,6 +5,7 @@ mod chains;
 mod declarations;
 mod flat;
 mod key_hash;
+mod meaning_law;
 mod registers;
 mod rule;
 mod slot;
@@ -23,6 +24,7 @@ pub use flat::{
     Work,
 };
 pub use key_hash::{HASH_START, hash_bytes, hash_number};
+pub use meaning_law::law_of_values;
 pub use registers::Registers;
 pub use rule::Rule;
 pub use statements::{Amount, Expr, Lval, RegRef, Stmt};

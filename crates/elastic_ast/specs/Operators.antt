@@ -1,0 +1,64 @@
+-- The operators by their codes, and the sort of each: which operands it takes and what it gives (the operators are those
+-- of P4-16 language specification 1.2.3, section 8; the codes are this project's own).
+use Rattle.std.specs.Prelude.{ℕ, List, [], ◌∷◌, unwrap_or, slice_get}
+
+pub data Operator : Type 0 where
+  Or : Operator
+  And : Operator
+  Equal : Operator
+  Differ : Operator
+  Less : Operator
+  AtMost : Operator
+  Greater : Operator
+  AtLeast : Operator
+  BitOr : Operator
+  BitXor : Operator
+  BitAnd : Operator
+  ShiftUp : Operator
+  ShiftDown : Operator
+  Plus : Operator
+  Minus : Operator
+  Join : Operator
+  Times : Operator
+  Turn : Operator  -- `~`: each bit is turned
+  Negate : Operator  -- `!`: a boolean is turned
+  NoOperator : Operator
+
+-- in the order of their codes, from 0
+abbrev pub operators : List Operator
+operators =
+    Or ∷ And ∷ Equal ∷ Differ ∷ Less ∷ AtMost ∷ Greater ∷ AtLeast ∷ BitOr ∷ BitXor ∷ BitAnd ∷ ShiftUp ∷ ShiftDown ∷ Plus ∷
+    Minus ∷ Join ∷ Times ∷ Turn ∷ Negate ∷ []
+
+abbrev pub operator_of : ℕ → Operator
+operator_of code = unwrap_or (slice_get operators code) NoOperator
+
+-- booleans to a boolean; bits to a boolean; bits moved by an amount; bits set side by side; bits of one width to bits of it
+pub data Sort : Type 0 where
+  Logic : Sort
+  Comparison : Sort
+  Shift : Sort
+  Joining : Sort
+  Arithmetic : Sort
+
+abbrev pub sort_of : Operator → Sort
+sort_of Or = Logic
+sort_of And = Logic
+sort_of Negate = Logic
+sort_of Equal = Comparison
+sort_of Differ = Comparison
+sort_of Less = Comparison
+sort_of AtMost = Comparison
+sort_of Greater = Comparison
+sort_of AtLeast = Comparison
+sort_of ShiftUp = Shift
+sort_of ShiftDown = Shift
+sort_of Join = Joining
+sort_of BitOr = Arithmetic
+sort_of BitXor = Arithmetic
+sort_of BitAnd = Arithmetic
+sort_of Plus = Arithmetic
+sort_of Minus = Arithmetic
+sort_of Times = Arithmetic
+sort_of Turn = Arithmetic
+sort_of NoOperator = Arithmetic
