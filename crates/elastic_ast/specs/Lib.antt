@@ -22,4 +22,9 @@ pub mod LookUps
 pub mod Types
 pub mod Memory
 pub mod Values
+pub mod Matches
+pub mod Written
+pub mod Meaning
+pub mod Locations
 pub mod WorkedValues
+pub mod WorkedProgram

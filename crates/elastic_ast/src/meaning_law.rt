@@ -1,7 +1,8 @@
-//! What small expressions mean, as equations that are computed when the crate is checked.
+//! What small expressions and statements mean, as equations that are computed when the crate is checked.
 
-ghost use Rattle.std.specs.Prelude.{◌≡◌, true};
-ghost use Rattle.elastic_ast.specs.Tree.{PlainExpr};
+ghost use Rattle.std.specs.Prelude.{◌≡◌, true, List, [], ◌∷◌, None, codes};
+ghost use Rattle.elastic_ast.specs.Tree.{PlainExpr, PlainStmt};
+ghost use Rattle.elastic_ast.specs.WorkedProgram.{x, element, v, r, stmts, x_after, element_after, cells_after, assign, add, is};
 ghost use Rattle.elastic_ast.specs.WorkedValues.{worth, worth_in_byte, wide, bare, byte, hash_in_loop};
 
 /// Values of expressions. An operator stands by its code.
@@ -19,4 +20,20 @@ pub fn law_of_values()
     ensures left_operand_is_high { worth (PlainExpr.Binary 15 (byte 0xab) (wide 4 0xc)) ≡ 0xabc }
     ensures bare_number_takes_the_width_of_its_place { worth_in_byte (PlainExpr.Unary 17 (bare 1)) ≡ 254 }
     ensures hash_by_index_and_size { worth hash_in_loop ≡ 0xb8 }
+{}
+
+/// What statements do in the worked program.
+pub fn law_of_statements()
+    ensures condition_is_decided_where_it_stands { x_after 0 (PlainStmt.IfElse (is x 0) (stmts (assign x 1 ∷ add x 1 ∷ [])) (stmts (assign x 7 ∷ [])) ∷ []) ≡ (8, 2) }
+    ensures loop_of_size_0_does_nothing { x_after 0 (PlainStmt.For (codes "i") (codes "s") (stmts (assign x 1 ∷ [])) ∷ []) ≡ (8, 0) }
+    ensures loop_runs_once_for_each_index { x_after 3 (PlainStmt.For (codes "i") (codes "s") (stmts (add x 1 ∷ [])) ∷ []) ≡ (8, 3) }
+    ensures each_turn_has_its_element { element_after 3 (PlainStmt.For (codes "i") (codes "s") (stmts (add x 5 ∷ PlainStmt.Assign element (PlainExpr.At x) ∷ [])) ∷ []) 1 ≡ (8, 10) }
+    ensures first_match_wins { x_after 0 (assign v 3 ∷ PlainStmt.Apply (codes "t") ∷ []) ≡ (8, 110) }
+    ensures later_entry_matches { x_after 0 (assign v 4 ∷ PlainStmt.Apply (codes "t") ∷ []) ≡ (8, 140) }
+    ensures no_match_does_nothing { x_after 0 (assign v 6 ∷ PlainStmt.Apply (codes "t") ∷ []) ≡ (8, 0) }
+    ensures arguments_come_first { x_after 0 (assign x 5 ∷ PlainStmt.Call (codes "set") None (PlainExpr.At x ∷ []) ∷ []) ≡ (8, 105) }
+    ensures cell_is_read { x_after 0 (PlainStmt.Read x r (bare 1) ∷ []) ≡ (8, 12) }
+    ensures cell_outside_reads_0 { x_after 0 (assign x 5 ∷ PlainStmt.Read x r (bare 2) ∷ []) ≡ (8, 0) }
+    ensures cell_is_written { cells_after 0 (PlainStmt.Write r (bare 0) (bare 5) ∷ []) ≡ 5 ∷ 12 ∷ [] }
+    ensures write_outside_does_nothing { cells_after 0 (PlainStmt.Write r (bare 2) (bare 5) ∷ []) ≡ 11 ∷ 12 ∷ [] }
 {}
