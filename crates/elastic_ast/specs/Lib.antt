@@ -26,5 +26,11 @@ pub mod Matches
 pub mod Written
 pub mod Meaning
 pub mod Locations
+pub mod PacketBits
+pub mod Parts
+pub mod Taken
+pub mod Given
+pub mod Packets
 pub mod WorkedValues
 pub mod WorkedProgram
+pub mod WorkedPackets

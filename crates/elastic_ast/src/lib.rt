@@ -24,7 +24,7 @@ pub use flat::{
     Work,
 };
 pub use key_hash::{HASH_START, hash_bytes, hash_number};
-pub use meaning_law::{law_of_statements, law_of_values};
+pub use meaning_law::{law_of_packets, law_of_statements, law_of_values};
 pub use registers::Registers;
 pub use rule::Rule;
 pub use statements::{Amount, Expr, Lval, RegRef, Stmt};

@@ -1,9 +1,12 @@
-//! What small expressions and statements mean, as equations that are computed when the crate is checked.
+//! What small expressions, statements and packets mean, as equations that are computed when the crate is checked.
 
-ghost use Rattle.std.specs.Prelude.{◌≡◌, true, List, [], ◌∷◌, None, codes};
+ghost use Rattle.std.specs.Prelude.{◌≡◌, true, false, List, [], ◌∷◌, None, codes};
 ghost use Rattle.elastic_ast.specs.Tree.{PlainExpr, PlainStmt};
-ghost use Rattle.elastic_ast.specs.WorkedProgram.{x, element, v, r, stmts, x_after, element_after, cells_after, assign, add, is};
+ghost use Rattle.elastic_ast.specs.WorkedProgram.{x, element, v, dropped, in_port, out_port, r, stmts, with_body, x_after, element_after, cells_after, assign, add, is};
+ghost use Rattle.elastic_ast.specs.WorkedPackets.{packet, cells_of_packets, answers};
 ghost use Rattle.elastic_ast.specs.WorkedValues.{worth, worth_in_byte, wide, bare, byte, hash_in_loop};
+
+use crate::flat::Out;
 
 /// Values of expressions. An operator stands by its code.
 pub fn law_of_values()
@@ -36,4 +39,18 @@ pub fn law_of_statements()
     ensures cell_outside_reads_0 { x_after 0 (assign x 5 ∷ PlainStmt.Read x r (bare 2) ∷ []) ≡ (8, 0) }
     ensures cell_is_written { cells_after 0 (PlainStmt.Write r (bare 0) (bare 5) ∷ []) ≡ 5 ∷ 12 ∷ [] }
     ensures write_outside_does_nothing { cells_after 0 (PlainStmt.Write r (bare 2) (bare 5) ∷ []) ≡ 11 ∷ 12 ∷ [] }
+{}
+
+/// What becomes of packets in the worked program. Cells 0 and 1 begin as 11 and 12.
+pub fn law_of_packets()
+    ensures short_packet_changes_no_register { cells_of_packets (with_body (PlainStmt.Write r (bare 0) (bare 5) ∷ [])) (packet (1 ∷ []) ∷ []) ≡ 11 ∷ 12 ∷ [] }
+    ensures rejected_packet_changes_no_register { cells_of_packets (with_body (PlainStmt.Write r (bare 0) (bare 5) ∷ [])) (packet (7 ∷ 1 ∷ []) ∷ []) ≡ 11 ∷ 12 ∷ [] }
+    ensures rejected_packet_is_dropped { answers (with_body []) (packet (7 ∷ 1 ∷ []) ∷ []) ≡ Out.Dropped ∷ [] }
+    ensures dropped_packet_changes_registers { cells_of_packets (with_body (PlainStmt.Write r (bare 0) (bare 5) ∷ assign dropped 1 ∷ [])) (packet (1 ∷ 2 ∷ []) ∷ []) ≡ 5 ∷ 12 ∷ [] }
+    ensures dropped_packet_is_dropped { answers (with_body (assign dropped 1 ∷ [])) (packet (1 ∷ 2 ∷ []) ∷ []) ≡ Out.Dropped ∷ [] }
+    ensures headers_come_before_the_rest { answers (with_body (assign v 9 ∷ [])) (packet (1 ∷ 2 ∷ 3 ∷ []) ∷ []) ≡ Out.Sent 0 (9 ∷ 2 ∷ 3 ∷ []) ∷ [] }
+    ensures port_is_seen { answers (with_body (PlainStmt.Assign out_port (PlainExpr.At in_port) ∷ [])) (packet (1 ∷ 2 ∷ []) ∷ []) ≡ Out.Sent 9 (1 ∷ 2 ∷ []) ∷ [] }
+    ensures registers_last_from_packet_to_packet { cells_of_packets (with_body (PlainStmt.Read x r (bare 0) ∷ PlainStmt.Write r (bare 0) (PlainExpr.Binary 13 (PlainExpr.At x) (bare 1)) ∷ [])) (packet (1 ∷ 2 ∷ []) ∷ packet (3 ∷ 4 ∷ []) ∷ []) ≡ 13 ∷ 12 ∷ [] }
+    ensures invalid_header_is_not_emitted { answers (with_body (PlainStmt.Valid (codes "h") false ∷ [])) (packet (1 ∷ 2 ∷ 3 ∷ []) ∷ []) ≡ Out.Sent 0 (3 ∷ []) ∷ [] }
+    ensures without_main_packets_pass_unread { answers [] (packet (1 ∷ 2 ∷ []) ∷ packet [] ∷ []) ≡ Out.Sent 0 (1 ∷ 2 ∷ []) ∷ Out.Sent 0 [] ∷ [] }
 {}
