@@ -42,14 +42,23 @@ out_port = lval.Std (codes "out_port")
 abbrev pub r : RegRef
 r = record { name = codes "r"; index = None }
 
--- `hdr.h` is extracted; where its field is 7 the packet is rejected
+-- `hdr.h` is extracted. Its field leads on: 7 to `reject`, 8 to another state, and each other number below 16 to `accept`.
 abbrev pub start_state : PlainState
 start_state =
     record {
       name = codes "start";
       extracts = codes "h" ∷ [];
-      next = PlainNext.Select (PlainExpr.At v) ((PlainKeyset.One (bare 7), codes "reject") ∷ (PlainKeyset.Any, codes "accept") ∷ []);
+      next =
+          PlainNext.Select (PlainExpr.At v)
+          ((PlainKeyset.One (bare 7), codes "reject")
+          ∷ (PlainKeyset.One (bare 8), codes "more")
+          ∷ (PlainKeyset.Masked (bare 0) (bare 0xf0), codes "accept")
+          ∷ []);
     }
+
+-- `hdr.g` is extracted
+abbrev pub more_state : PlainState
+more_state = record { name = codes "more"; extracts = codes "g" ∷ []; next = PlainNext.To (codes "accept") }
 
 -- `set(n)` gives `meta.x` the number 100, and then adds `n`
 abbrev pub set_action : PlainAction
@@ -64,15 +73,15 @@ set_action =
 abbrev pub entry : PlainKeyset → ℕ → PlainEntry
 entry set number = record { keys = set ∷ []; action = codes "set"; args = bare number ∷ [] }
 
--- the first entry matches odd numbers, the second one the number 3
-abbrev pub table : PlainTable
-table =
+-- a table over `hdr.h.v`: the first entry matches odd numbers, the second one the number 3
+abbrev pub table : Name → Option (Name × List PlainExpr) → PlainTable
+table name fallback =
     record {
-      name = codes "t";
+      name = name;
       keys = record { field = v; ternary = true } ∷ [];
       actions = codes "set" ∷ [];
       entries = entry (PlainKeyset.Masked (bare 1) (bare 1)) 10 ∷ entry (PlainKeyset.One (bare 3)) 20 ∷ entry (PlainKeyset.One (bare 4)) 40 ∷ [];
-      fallback = None;
+      fallback = fallback;
       size = None;
     }
 
@@ -80,12 +89,12 @@ abbrev pub with_body : List PlainStmt → List PlainDecl
 with_body body =
     PlainDecl.Symbol (codes "s")
     ∷ PlainDecl.Header (codes "h_t") (byte_field (codes "v") None ∷ byte_field (codes "w") None ∷ [])
-    ∷ PlainDecl.Headers ((codes "h_t", codes "h") ∷ [])
+    ∷ PlainDecl.Headers ((codes "h_t", codes "h") ∷ (codes "h_t", codes "g") ∷ [])
     ∷ PlainDecl.Meta (byte_field (codes "x") None ∷ byte_field (codes "a") (Some (codes "s")) ∷ [])
     ∷ PlainDecl.Register (codes "r") 8 (amount.Num 2) None
-    ∷ PlainDecl.Parser (codes "p") (start_state ∷ [])
-    ∷ PlainDecl.Control (codes "c") (PlainLocal.OfAction set_action ∷ PlainLocal.OfTable table ∷ []) (stmts body)
-    ∷ PlainDecl.Deparser (codes "d") (codes "h" ∷ [])
+    ∷ PlainDecl.Parser (codes "p") (start_state ∷ more_state ∷ [])
+    ∷ PlainDecl.Control (codes "c") (PlainLocal.OfAction set_action ∷ PlainLocal.OfTable (table (codes "t") None) ∷ PlainLocal.OfTable (table (codes "u") (Some (codes "set", bare 60 ∷ []))) ∷ []) (stmts body)
+    ∷ PlainDecl.Deparser (codes "d") (codes "h" ∷ codes "g" ∷ [])
     ∷ PlainDecl.Main (codes "p") (codes "c") (codes "d")
     ∷ []
 
