@@ -1,0 +1,5 @@
+pub mod PlacedWords
+pub mod PlacedGrammar
+pub mod Parts
+pub mod Operators
+pub mod Expressions

@@ -1,0 +1,78 @@
+-- The parts of expressions and statements that have no expression in them, in the manner of the grammar of the P4-16
+-- language specification 1.2.3; this project's own. Each needs the words alone.
+use Rattle.std.specs.Prelude.{◌≡◌, ℕ, ◌<◌, ◌^◌, Bool, true, false, List, [], ◌∷◌, Option, None, Some, codes}
+use Rattle.p4_lexer.specs.declared.token.Kind.TheVariants as kind
+use Rattle.elastic_ast.specs.declared.statements.Amount.{Amount}
+use Rattle.elastic_ast.specs.declared.statements.Amount.TheVariants as amount
+use Rattle.elastic_ast.specs.declared.statements.Lval.{Lval}
+use Rattle.elastic_ast.specs.declared.statements.Lval.TheVariants as lval
+use Rattle.elastic_ast.specs.declared.statements.RegRef.{RegRef}
+use Rattle.spelling.specs.Words.{Word}
+use Rattle.spelling.specs.Grammar.{Grammar, Empty, One, ◌⨟◌, Where, Each, Sign, Reserved, Named, Num, Bracketed}
+
+abbrev pub IsNumber : Option ℕ → ℕ → Word → Type 0
+IsNumber width value word = word.kind ≡ kind.Number width value
+
+-- a width fits its place in the tree
+abbrev pub FitsWidth : Option ℕ → Type 0
+FitsWidth None = Unit {0}
+FitsWidth (Some width) = width < 2 ^ 8
+
+-- V: any number, with a width or without one
+abbrev pub SpellsNumber : Option ℕ → ℕ → Grammar
+SpellsNumber width value = Where (FitsWidth width × (value < 2 ^ 128)) (One (IsNumber width value))
+
+-- the things of a list with a comma between each two, perhaps none
+abbrev pub Commas : {A : Type 0} → (A → Grammar) → List A → Grammar
+Commas Of [] = Empty
+Commas Of (x ∷ xs) = Of x ⨟ Each (λ y. Sign (codes ",") ⨟ Of y) xs
+
+-- 'true' | 'false'
+abbrev pub SpellsTruth : Bool → Grammar
+SpellsTruth true = Reserved (codes "true")
+SpellsTruth false = Reserved (codes "false")
+
+-- bits := 'bit' '<' K '>'
+abbrev pub SpellsBits : ℕ → Grammar
+SpellsBits width = Where (width < 2 ^ 8) (Reserved (codes "bit") ⨟ Sign (codes "<") ⨟ Num width ⨟ Sign (codes ">"))
+
+-- amount := K | N
+abbrev pub SpellsAmount : Amount → Grammar
+SpellsAmount (amount.Num value) = Where (value < 2 ^ 32) (Num value)
+SpellsAmount (amount.Named name) = Named name
+
+-- ['[' N ']']
+abbrev pub SpellsIndex : ℕ → Option (List ℕ) → Grammar
+SpellsIndex depth None = Empty
+SpellsIndex depth (Some index) = Bracketed (codes "[") (codes "]") depth (λ _. Named index)
+
+-- 'hdr' '.' N
+abbrev pub SpellsHeader : List ℕ → Grammar
+SpellsHeader header = Named (codes "hdr") ⨟ Sign (codes ".") ⨟ Named header
+
+-- '(' ')'
+abbrev pub SpellsNoArguments : ℕ → Grammar
+SpellsNoArguments depth = Bracketed (codes "(") (codes ")") depth (λ _. Empty)
+
+-- lval := 'hdr' '.' N '.' N | 'meta' '.' N ['[' N ']'] | 'std' '.' N
+abbrev pub SpellsLval : ℕ → Lval → Grammar
+SpellsLval depth (lval.Header header field) = SpellsHeader header ⨟ Sign (codes ".") ⨟ Named field
+SpellsLval depth (lval.Meta name index) = Named (codes "meta") ⨟ Sign (codes ".") ⨟ Named name ⨟ SpellsIndex depth index
+SpellsLval depth (lval.Std name) = Named (codes "std") ⨟ Sign (codes ".") ⨟ Named name
+
+-- reg := N ['[' N ']']
+abbrev pub SpellsRegister : ℕ → RegRef → Grammar
+SpellsRegister depth register = Named register.name ⨟ SpellsIndex depth register.index
+
+-- 'hdr' '.' N '.' 'isValid' '(' ')'
+abbrev pub SpellsIsValid : ℕ → List ℕ → Grammar
+SpellsIsValid depth header = SpellsHeader header ⨟ Sign (codes ".") ⨟ Named (codes "isValid") ⨟ SpellsNoArguments depth
+
+-- '[' K ':' K ']', the higher bit first
+abbrev pub SpellsBitRange : ℕ → ℕ → ℕ → Grammar
+SpellsBitRange depth high low =
+    Where ((high < 2 ^ 8) × (low < 2 ^ 8)) (Bracketed (codes "[") (codes "]") depth (λ _. Num high ⨟ Sign (codes ":") ⨟ Num low))
+
+-- '(' bits ')'
+abbrev pub SpellsCast : ℕ → ℕ → Grammar
+SpellsCast depth width = Bracketed (codes "(") (codes ")") depth (λ _. SpellsBits width)

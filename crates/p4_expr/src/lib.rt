@@ -1,0 +1,2 @@
+//! The expressions of a program: which words spell one, and which tree these are.
+#![tactic(auto)]
