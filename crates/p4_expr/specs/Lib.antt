@@ -3,3 +3,4 @@ pub mod PlacedGrammar
 pub mod Parts
 pub mod Operators
 pub mod Expressions
+pub mod Examples

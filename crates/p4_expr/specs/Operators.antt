@@ -1,6 +1,6 @@
 -- The operators of expressions, their levels and their signs, in the manner of the grammar of the P4-16 language
 -- specification 1.2.3; the levels are this project's own.
-use Rattle.std.specs.Prelude.{◌≡◌, ◌≢◌, ℕ, ◌+◌, List, [], ◌∷◌, Option, Some, slice_get, codes, ◌⊎◌}
+use Rattle.std.specs.Prelude.{◌≡◌, ◌≢◌, ℕ, ◌+◌, List, [], ◌∷◌, Some, slice_get, codes, ◌⊎◌}
 use Rattle.spelling.specs.Grammar.{IsSign}
 use Rattle.elastic_ast.specs.Tree.{PlainExpr}
 use Rattle.p4_expr.specs.PlacedGrammar.{PlacedGrammar, Sign, TwoTouching}

@@ -1,0 +1,106 @@
+-- The trees of the examples.
+use Rattle.std.proofs.Common.{[], ◌∷◌, codes, refl, None, lit<, lit≤}
+use Rattle.elastic_ast.specs.Tree.{PlainExpr}
+use Rattle.p4_expr.specs.Operators.{operators_in}
+use Rattle.p4_expr.specs.Expressions.{SpellsLevel, SpellsPrefixed, SpellsPrimary, SpellsExpr}
+use Rattle.p4_expr.specs.Examples.{product_in_sum, two_differences, name_in_brackets, shift, four_bits, byte_of_name, two_prefixes}
+use Rattle.p4_expr.proofs.Building.{is_sign, is_reserved, word_first, word_last, placed_last, is_plus, is_minus, is_times, is_shift, is_tilde, is_bang, plus_is_one, minus_is_one, times_is_one, tilde_is_one, bang_is_one, one_sign, two_signs, primary_name, prefixed_name, one_name, one_number, from_none, from_two, from_three}
+
+pub sum_tree : SpellsExpr 0 (PlainExpr.Binary 13 (PlainExpr.Named (codes "a")) (PlainExpr.Binary 16 (PlainExpr.Named (codes "b")) (PlainExpr.Named (codes "c")))) product_in_sum
+unfolding operators_in
+sum_tree = (
+  from_two 0 _ product_in_sum
+      (SpellsLevel.binary (codes "+") _ _ _ is_plus
+      (SpellsLevel.stronger (SpellsLevel.stronger (one_name 0 (codes "a") _ refl refl)))
+      (one_sign (codes "+") 13 _ plus_is_one refl refl)
+      (SpellsLevel.binary (codes "*") _ _ _ is_times
+      (SpellsLevel.stronger (one_name 0 (codes "b") _ refl refl))
+      (one_sign (codes "*") 15 _ times_is_one refl refl)
+      (one_name 0 (codes "c") _ refl refl)
+      refl)
+      refl),
+  lit≤ tt,
+)
+
+pub differences_tree : SpellsExpr 0 (PlainExpr.Binary 14 (PlainExpr.Binary 14 (PlainExpr.Named (codes "a")) (PlainExpr.Named (codes "b"))) (PlainExpr.Named (codes "c"))) two_differences
+unfolding operators_in
+differences_tree = (
+  from_two 0 _ two_differences
+      (SpellsLevel.binary (codes "-") _ _ _ is_minus
+      (SpellsLevel.binary (codes "-") _ _ _ is_minus
+      (SpellsLevel.stronger (SpellsLevel.stronger (one_name 0 (codes "a") _ refl refl)))
+      (one_sign (codes "-") 14 _ minus_is_one refl refl)
+      (SpellsLevel.stronger (one_name 0 (codes "b") _ refl refl))
+      refl)
+      (one_sign (codes "-") 14 _ minus_is_one refl refl)
+      (SpellsLevel.stronger (one_name 0 (codes "c") _ refl refl))
+      refl),
+  lit≤ tt,
+)
+
+pub brackets_tree : SpellsExpr 1 (PlainExpr.Named (codes "a")) name_in_brackets
+unfolding operators_in
+brackets_tree = (
+  from_none 1 _ name_in_brackets (SpellsLevel.prefixed (SpellsPrefixed.primary
+      (SpellsPrimary.bracketed _ _ _ (placed_last _ (is_sign (codes "(") 2 _ refl refl)) (from_none 0 _ _ (one_name 0 (codes "a") _ refl refl)) (placed_last _ (is_sign (codes ")") 3 _ refl refl)) refl))),
+  lit≤ tt,
+)
+
+pub shift_tree : SpellsExpr 0 (PlainExpr.Binary 12 (PlainExpr.Named (codes "x")) (PlainExpr.Num None 2)) shift
+unfolding operators_in
+shift_tree = (
+  from_three 0 _ shift
+      (SpellsLevel.binary (codes ">>") _ _ _ is_shift
+      (SpellsLevel.stronger (SpellsLevel.stronger (SpellsLevel.stronger (one_name 0 (codes "x") _ refl refl))))
+      (two_signs _ _ (is_sign (codes ">") 7 _ refl refl) (is_sign (codes ">") 7 _ refl refl) refl)
+      (SpellsLevel.stronger (SpellsLevel.stronger (one_number 0 2 _ (lit< tt) refl)))
+      refl),
+  lit≤ tt,
+)
+
+pub slice_tree : SpellsExpr 1 (PlainExpr.Slice (PlainExpr.Named (codes "h")) 7 4) four_bits
+unfolding operators_in
+slice_tree = (
+  from_none 1 _ four_bits (SpellsLevel.prefixed (SpellsPrefixed.primary
+      (SpellsPrimary.slice _ _ (primary_name 1 (codes "h") _ refl refl) (
+        (lit< tt, lit< tt),
+        word_first _ _ (is_sign (codes "[") 4 _ refl refl)
+            record {
+              front = _ ∷ _ ∷ _ ∷ [];
+              back = _ ∷ [];
+              joined = refl;
+              first = word_first _ _ refl (word_first _ _ (is_sign (codes ":") 9 _ refl refl) (word_last _ refl));
+              second = word_last _ (is_sign (codes "]") 5 _ refl refl);
+            },
+      )
+      refl))),
+  lit≤ tt,
+)
+
+pub cast_tree : SpellsExpr 1 (PlainExpr.Cast 8 (PlainExpr.Named (codes "x"))) byte_of_name
+unfolding operators_in
+cast_tree = (
+  from_none 1 _ byte_of_name (SpellsLevel.prefixed
+      (SpellsPrefixed.cast (_ ∷ _ ∷ _ ∷ _ ∷ _ ∷ _ ∷ []) _
+      (word_first _ _ (is_sign (codes "(") 2 _ refl refl)
+      record {
+        front = _ ∷ _ ∷ _ ∷ _ ∷ [];
+        back = _ ∷ [];
+        joined = refl;
+        first = (lit< tt, word_first _ _ (is_reserved (codes "bit") 1 _ refl refl) (word_first _ _ (is_sign (codes "<") 6 _ refl refl) (word_first _ _ refl (word_last _ (is_sign (codes ">") 7 _ refl refl)))));
+        second = word_last _ (is_sign (codes ")") 3 _ refl refl);
+      })
+      (prefixed_name 1 (codes "x") _ refl refl)
+      refl)),
+  lit≤ tt,
+)
+
+pub prefixes_tree : SpellsExpr 0 (PlainExpr.Unary 17 (PlainExpr.Unary 18 (PlainExpr.Named (codes "x")))) two_prefixes
+unfolding operators_in
+prefixes_tree = (
+  from_none 0 _ two_prefixes (SpellsLevel.prefixed
+      (SpellsPrefixed.unary (codes "~") _ _ is_tilde (one_sign (codes "~") 19 _ tilde_is_one refl refl)
+      (SpellsPrefixed.unary (codes "!") _ _ is_bang (one_sign (codes "!") 20 _ bang_is_one refl refl) (prefixed_name 0 (codes "x") _ refl refl) refl)
+      refl)),
+  lit≤ tt,
+)
