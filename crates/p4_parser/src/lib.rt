@@ -3,9 +3,11 @@
 #![tactic(auto)]
 
 mod fields;
+mod grammar_laws;
 mod parsing;
 mod sums;
 #[cfg(test)]
 mod tests;
 
+pub use grammar_laws::{else_goes_to_the_inner_if, law_of_first_declarations, law_of_open_ends};
 pub use parsing::parse;

@@ -1,0 +1,108 @@
+-- What the first grammar of declarations spells, the grammar of whole programs spells too.
+use Rattle.std.proofs.Common.{◌≡◌, ℕ, zero, suc, List, [], ◌∷◌, ◌++◌, refl, sym, ◌∙◌, ap, subst}
+use Rattle.elastic_ast.specs.declared.declarations.UtilTerm.{UtilTerm}
+use Rattle.elastic_ast.specs.declared.declarations.UtilTerm.TheVariants as util
+use Rattle.elastic_ast.specs.Tree.{PlainDecl, PlainProgram}
+use Rattle.spelling.specs.Words.{Word}
+use Rattle.spelling.specs.Grammar.{Each, FirstThenEach}
+use Rattle.p4_expr.specs.PlacedWords.{PlacedWord, bare}
+use Rattle.p4_parser.specs.Grammar.{Spells, SpellsDecl, SpellsUtility, SpellsFirstUtility, SpellsLaterUtility}
+use Rattle.p4_parser.specs.Flat.{SpellsFlat, SpellsFirstGain, SpellsLaterGain}
+use Rattle.p4_parser.specs.Declarations.{SpellsDeclaration, SpellsProgram}
+
+-- words with places whose bare words are two lists in a row
+pub record Parted (front : List Word) (back : List Word) (ws : List PlacedWord) : Type 0 where
+  pub first : List PlacedWord
+  pub second : List PlacedWord
+  pub joined : ws ≡ first ++ second
+  pub front_is : bare first ≡ front
+  pub back_is : bare second ≡ back
+
+pub parted : (front back : List Word) (ws : List PlacedWord) → bare ws ≡ front ++ back → Parted front back ws
+parted [] back ws h = record { first = []; second = ws; joined = refl; front_is = refl; back_is = h }
+parted (w ∷ front) back [] h = let e : [] ≡ w ∷ (front ++ back) = h in absurd cc
+parted (w ∷ front) back (p ∷ ws) h =
+    let e : p.word ∷ bare ws ≡ w ∷ (front ++ back) = h in
+    let head : p.word ≡ w = cc in
+    let tail : bare ws ≡ front ++ back = cc in
+    let rest = parted front back ws tail in
+    record { first = p ∷ rest.first; second = rest.second; joined = ap (λ l. p ∷ l) rest.joined; front_is = ap (λ x. x ∷ bare rest.first) head ∙ ap (λ l. w ∷ l) rest.front_is; back_is = rest.back_is }
+
+pub none_are_bare : (ws : List PlacedWord) → bare ws ≡ [] → ws ≡ []
+none_are_bare [] h = refl
+none_are_bare (p ∷ ws) h = let e : p.word ∷ bare ws ≡ [] = h in absurd cc
+
+pub first_gain : (depth : ℕ) (term : UtilTerm) (ws : List Word) → SpellsFirstUtility term ws → SpellsFirstGain depth term ws
+first_gain depth (util.Lin term) ws h = h
+first_gain depth (util.Steps minus symbol steps) ws h = absurd h
+
+pub later_gain : (depth : ℕ) (term : UtilTerm) (ws : List Word) → SpellsLaterUtility term ws → SpellsLaterGain depth term ws
+later_gain depth (util.Lin term) ws h = h
+later_gain depth (util.Steps minus symbol steps) ws h = absurd h
+
+pub later_gains : (depth : ℕ) (terms : List UtilTerm) (ws : List Word) → Each SpellsLaterUtility terms ws → Each (SpellsLaterGain depth) terms ws
+later_gains depth [] ws h = h
+later_gains depth (term ∷ terms) ws h = record { front = h.front; back = h.back; joined = h.joined; first = later_gain depth term h.front h.first; second = later_gains depth terms h.back h.second }
+
+pub gains : (depth : ℕ) (terms : List UtilTerm) (ws : List Word) → SpellsUtility terms ws → FirstThenEach (SpellsFirstGain depth) (SpellsLaterGain depth) terms ws
+gains depth [] ws h = absurd h
+gains depth (term ∷ terms) ws h = record { front = h.front; back = h.back; joined = h.joined; first = first_gain depth term h.front h.first; second = later_gains depth terms h.back h.second }
+
+pub utility_still : (depth : ℕ) (terms : List UtilTerm) (ws : List Word) → SpellsDecl depth (PlainDecl.Maximize terms) ws → SpellsFlat depth (PlainDecl.Maximize terms) ws
+utility_still zero terms ws h = absurd h.second.first
+utility_still (suc depth) terms ws h =
+    let inside = h.second.first in
+    record {
+      front = h.front;
+      back = h.back;
+      joined = h.joined;
+      first = h.first;
+      second = record {
+        front = h.second.front;
+        back = h.second.back;
+        joined = h.second.joined;
+        first = record {
+          front = inside.front;
+          back = inside.back;
+          joined = inside.joined;
+          first = inside.first;
+          second = record {
+            front = inside.second.front;
+            back = inside.second.back;
+            joined = inside.second.joined;
+            first = gains depth terms inside.second.front inside.second.first;
+            second = inside.second.second;
+          };
+        };
+        second = h.second.second;
+      };
+    }
+
+pub declaration_still : (depth : ℕ) (decl : PlainDecl) (ws : List PlacedWord) → SpellsDecl depth decl (bare ws) → SpellsDeclaration depth decl ws
+declaration_still depth (PlainDecl.Symbol symbol) ws h = h
+declaration_still depth (PlainDecl.Assume comps) ws h = h
+declaration_still depth (PlainDecl.Maximize terms) ws h = utility_still depth terms (bare ws) h
+declaration_still depth (PlainDecl.Meta fields) ws h = h
+declaration_still depth (PlainDecl.Include file) ws h = absurd h
+declaration_still depth (PlainDecl.Const name width value) ws h = absurd h
+declaration_still depth (PlainDecl.Header name fields) ws h = absurd h
+declaration_still depth (PlainDecl.Headers members) ws h = absurd h
+declaration_still depth (PlainDecl.Register name width cells size) ws h = absurd h
+declaration_still depth (PlainDecl.Parser name states) ws h = absurd h
+declaration_still depth (PlainDecl.Control name locals body) ws h = absurd h
+declaration_still depth (PlainDecl.Deparser name emits) ws h = absurd h
+declaration_still depth (PlainDecl.Main parser control deparser) ws h = absurd h
+
+pub program_still : (depth : ℕ) (decls : PlainProgram) (ws : List PlacedWord) → Spells depth decls (bare ws) → SpellsProgram depth decls ws
+program_still depth [] ws h = none_are_bare ws h
+program_still depth (decl ∷ decls) ws h =
+    let parts = parted h.front h.back ws h.joined in
+    let InFront : List Word → Type 0 = λ l. SpellsDecl depth decl l in
+    let Behind : List Word → Type 0 = λ l. Spells depth decls l in
+    record {
+      front = parts.first;
+      back = parts.second;
+      joined = parts.joined;
+      first = declaration_still depth decl parts.first (subst InFront (sym parts.front_is) h.first);
+      second = program_still depth decls parts.second (subst Behind (sym parts.back_is) h.second);
+    }
