@@ -1,3 +1,4 @@
+pub mod BareWords
 pub mod Building
 pub mod ExampleTrees
 pub mod PartedSigns

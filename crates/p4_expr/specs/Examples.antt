@@ -35,9 +35,6 @@ parted_shift = placed_words (codes "x > > 2") (named 0 1 ∷ signed 7 2 3 ∷ si
 abbrev pub four_bits : List PlacedWord
 four_bits = placed_words (codes "h[7:4]") (named 0 1 ∷ signed 4 1 2 ∷ numbered 7 2 3 ∷ signed 9 3 4 ∷ numbered 4 4 5 ∷ signed 5 5 6 ∷ [])
 
-abbrev pub open_slice : List PlacedWord
-open_slice = placed_words (codes "h[7:4") (named 0 1 ∷ signed 4 1 2 ∷ numbered 7 2 3 ∷ signed 9 3 4 ∷ numbered 4 4 5 ∷ [])
-
 abbrev pub byte_of_name : List PlacedWord
 byte_of_name = placed_words (codes "(bit<8>) x") (signed 2 0 1 ∷ reserved 1 1 4 ∷ signed 6 4 5 ∷ numbered 8 5 6 ∷ signed 7 6 7 ∷ signed 3 7 8 ∷ named 9 10 ∷ [])
 

@@ -5,3 +5,4 @@ pub mod StatementTrees
 pub mod StillSpelled
 pub mod SumSpelling
 pub mod Terms
+pub mod TwoKeys

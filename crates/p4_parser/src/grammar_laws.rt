@@ -1,7 +1,11 @@
 //! Laws of the grammar of whole programs and examples of what it spells, each the contract of an empty function.
 
-ghost use Rattle.std.specs.Prelude.{◌≡◌, ℕ, Bool, true, false, List, codes};
+ghost use Rattle.std.specs.Prelude.{◌≡◌, ℕ, Bool, true, false, List, ◌∷◌, codes};
 ghost use Rattle.elastic_ast.specs.Tree.{PlainExpr, PlainStmt, PlainStmts, PlainProgram};
+ghost use Rattle.elastic_ast.specs.declared.declarations.Key.{Key};
+ghost use Rattle.elastic_ast.specs.Tree.{PlainTable};
+ghost use Rattle.spelling.specs.Words.{Word};
+ghost use Rattle.p4_parser.specs.Tables.{Property, SpellsTable};
 ghost use Rattle.p4_expr.specs.PlacedWords.{PlacedWord, bare};
 ghost use Rattle.p4_parser.specs.Grammar.{Spells};
 ghost use Rattle.p4_parser.specs.Statements.{SpellsStmt};
@@ -22,4 +26,9 @@ pub fn law_of_open_ends()
 /// An `else` behind two `if` belongs to the inner one. Each branch is one statement without brackets, and counts as one.
 pub fn else_goes_to_the_inner_if()
     ensures { SpellsStmt 3 true (PlainStmt.If (PlainExpr.Named (codes "a")) (only (PlainStmt.IfElse (PlainExpr.Named (codes "b")) (only (bare_call (codes "x"))) (only (bare_call (codes "y")))))) inner_else }
+{}
+
+/// No table is spelled with a key property behind a key property, even where both are empty.
+pub fn no_table_has_two_key_properties()
+    ensures { (depth : ℕ) (table : PlainTable) (ws : List Word) (spelled : SpellsTable depth table ws) (one other : List Key) (rest : List Property) → spelled.properties ≡ Property.Keys one ∷ Property.Keys other ∷ rest → ⊥ }
 {}
