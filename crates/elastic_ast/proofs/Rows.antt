@@ -1,7 +1,7 @@
 -- Worked rows of the definitions: small programs with the first rule that each breaks, and sums at given sizes. Each is
 -- worked by hand, and shows that the definitions say what they should.
 use Rattle.std.proofs.Common.{◌≡◌, ℕ, true, false, List, [], ◌∷◌, Option, Some, None, refl, pos, neg_ℤ, arith}
-use Rattle.std.specs.Prelude.{codes, ◌≤ℤ◌}
+use Rattle.std.specs.Prelude.{codes, ◌≤◌, ◌≤ℤ◌}
 use Rattle.std.proofs.lemmas.List.Elements.{All-from_recursion, recursion_from_All}
 use Rattle.std.proofs.lemmas.Int.{ints}
 use Rattle.elastic_ast.specs.declared.rule.Rule.{Rule}
@@ -12,10 +12,12 @@ use Rattle.elastic_ast.specs.declared.declarations.Rel.{Rel}
 use Rattle.elastic_ast.specs.declared.declarations.Rel.TheVariants.{Le, Ge}
 use Rattle.elastic_ast.specs.declared.declarations.Comp.{Comp}
 use Rattle.elastic_ast.specs.declared.declarations.UtilTerm.TheVariants.{Lin}
-use Rattle.elastic_ast.specs.Tree.{Name, PlainDecl}
+use Rattle.elastic_ast.specs.declared.statements.Amount.TheVariants as amount
+use Rattle.elastic_ast.specs.Tree.{Name, PlainDecl, PlainExpr, PlainStmt, PlainStmts}
 use Rattle.elastic_ast.specs.Demand.{fixed_names}
 use Rattle.elastic_ast.specs.Typed.{Typed, broken_rule, first_of}
-use Rattle.elastic_ast.specs.Sums.{size_of, sum_value, utility, comparisons, Holds, Assumes}
+use Rattle.elastic_ast.specs.Sums.{size_of, sum_value, utility, comparisons, Holds, IsCounted, Assumes}
+use Rattle.elastic_ast.specs.Counted.{counted_symbols}
 use Rattle.elastic_ast.proofs.TypedLaws.{walk_passes}
 
 abbrev rows : Name
@@ -128,9 +130,44 @@ small_assumes =
     let least : pos 1 ≤ℤ pos 3 = omega (arith, ints) in
     let most : pos 3 ≤ℤ pos 3 = omega (arith, ints) in
     let widest : pos 100 ≤ℤ pos 100 = omega (arith, ints) in
-    All-from_recursion (Holds (rows ∷ cols ∷ []) (3 ∷ 100 ∷ [])) (comparisons small) (least, (most, (widest, tt)))
+    record {
+      compared = All-from_recursion (Holds (rows ∷ cols ∷ []) (3 ∷ 100 ∷ [])) (comparisons small) (least, (most, (widest, tt)));
+      counted = All-from_recursion (IsCounted small (3 ∷ 100 ∷ [])) [] tt;
+    }
 
 small_refuses : Assumes small (4 ∷ 100 ∷ []) → ⊥
 small_refuses h =
-    let second : pos 4 ≤ℤ pos 3 = (recursion_from_All (Holds (rows ∷ cols ∷ []) (4 ∷ 100 ∷ [])) (comparisons small) h).1.0 in
+    let second : pos 4 ≤ℤ pos 3 = (recursion_from_All (Holds (rows ∷ cols ∷ []) (4 ∷ 100 ∷ [])) (comparisons small) h.compared).1.0 in
     omega (arith, ints, second)
+
+-- `symbolic int rows; symbolic int cols; Register<bit<8>>(cols) r;`, and a control whose body is
+-- `if (hash(0, 1w1, rows) == 0) { }`: both symbols count something
+abbrev counting : List PlainDecl
+counting =
+    PlainDecl.Symbol rows ∷ PlainDecl.Symbol cols ∷ PlainDecl.Register (codes "r") 8 (amount.Named cols) None ∷
+    PlainDecl.Control (codes "c") []
+    (PlainStmts.cons
+    (PlainStmt.If (PlainExpr.Binary 2 (PlainExpr.Hash (amount.Num 0) (PlainExpr.Num (Some 1) 1) (amount.Named rows)) (PlainExpr.Num None 0)) PlainStmts.nil)
+    PlainStmts.nil) ∷
+    []
+
+both_count : counted_symbols counting ≡ cols ∷ rows ∷ []
+both_count = refl
+
+counting_assumes : Assumes counting (1 ∷ 1 ∷ [])
+counting_assumes =
+    let one : 1 ≤ 1 = omega arith in
+    record {
+      compared = All-from_recursion (Holds (rows ∷ cols ∷ []) (1 ∷ 1 ∷ [])) [] tt;
+      counted = All-from_recursion (IsCounted counting (1 ∷ 1 ∷ [])) (counted_symbols counting) (one, (one, tt));
+    }
+
+no_modulus_is_0 : Assumes counting (0 ∷ 1 ∷ []) → ⊥
+no_modulus_is_0 h =
+    let second : 1 ≤ 0 = (recursion_from_All (IsCounted counting (0 ∷ 1 ∷ [])) (counted_symbols counting) h.counted).1.0 in
+    omega (arith, second)
+
+no_count_is_0 : Assumes counting (1 ∷ 0 ∷ []) → ⊥
+no_count_is_0 h =
+    let first : 1 ≤ 0 = (recursion_from_All (IsCounted counting (1 ∷ 0 ∷ [])) (counted_symbols counting) h.counted).0 in
+    omega (arith, first)

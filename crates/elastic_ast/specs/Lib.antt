@@ -5,6 +5,7 @@ pub mod Scope
 pub mod Demand
 pub mod Asked
 pub mod Typed
+pub mod Counted
 pub mod Sums
 pub mod Places
 pub mod Spotted

@@ -1,5 +1,5 @@
 -- What sums of sizes are worth: the assume clauses and the utility of a program; this project's own.
-use Rattle.std.specs.Prelude.{◌≡◌, ℕ, ◌*◌, Bool, true, false, nat_le, List, [], ◌∷◌, flat_map, Option, Some, None, All, unwrap_or, ℤ, pos, ◌+ℤ◌, ◌≤ℤ◌, ◌<ℤ◌, neg_ℤ, if◌then◌else◌}
+use Rattle.std.specs.Prelude.{◌≡◌, ℕ, ◌*◌, ◌≤◌, Bool, true, false, nat_le, List, [], ◌∷◌, flat_map, Option, Some, None, All, unwrap_or, ℤ, pos, ◌+ℤ◌, ◌≤ℤ◌, ◌<ℤ◌, neg_ℤ, if◌then◌else◌}
 use Rattle.elastic_ast.specs.declared.declarations.Comp.{Comp}
 use Rattle.elastic_ast.specs.declared.declarations.LinTerm.{LinTerm}
 use Rattle.elastic_ast.specs.declared.declarations.Rel.{Rel}
@@ -8,6 +8,7 @@ use Rattle.elastic_ast.specs.declared.declarations.UtilTerm.{UtilTerm}
 use Rattle.elastic_ast.specs.declared.declarations.UtilTerm.TheVariants as util
 use Rattle.elastic_ast.specs.Tree.{Name, PlainDecl}
 use Rattle.elastic_ast.specs.Scope.{same, found}
+use Rattle.elastic_ast.specs.Counted.{counted_symbols}
 
 abbrev pub symbol_name : PlainDecl → List Name
 symbol_name (PlainDecl.Symbol name) = name ∷ []
@@ -58,9 +59,18 @@ comps_of _ = []
 abbrev pub comparisons : List PlainDecl → List Comp
 comparisons = flat_map comps_of
 
--- every comparison of every assume clause is true (no symbol counts cells or is a modulus in the declarations so far)
-abbrev pub Assumes : List PlainDecl → List ℕ → Type 0
-Assumes decls sizes = All (Holds (symbols_of decls) sizes) (comparisons decls)
+-- every comparison of every assume clause is true
+abbrev pub Compared : List PlainDecl → List ℕ → Type 0
+Compared decls sizes = All (Holds (symbols_of decls) sizes) (comparisons decls)
+
+-- a symbol that counts something is at least 1
+abbrev pub IsCounted : List PlainDecl → List ℕ → Name → Type 0
+IsCounted decls sizes symbol = 1 ≤ size_of (symbols_of decls) sizes symbol
+
+-- every comparison of every assume clause is true, and each symbol that counts cells or is a modulus is at least 1
+pub record Assumes (decls : List PlainDecl) (sizes : List ℕ) : Type 0 where
+  pub compared : Compared decls sizes
+  pub counted : All (IsCounted decls sizes) (counted_symbols decls)
 
 -- the value of the last key that isn't above a size, where keys rise
 abbrev pub step_value : ℕ → ℕ → List (ℕ × ℕ) → ℕ

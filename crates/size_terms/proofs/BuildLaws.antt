@@ -1,10 +1,11 @@
 -- What a checked program keeps of its terms, and how its rows and its utility are built step by step.
 use Rattle.std.proofs.Common.{◌≡◌, ℕ, zero, suc, ◌+◌, ◌<◌, ◌≤◌, ◌&&◌, Bool, true, false, List, [], ◌∷◌, ◌++◌, flat_map, length, take, drop, get_or, Option, Some, None, refl, sym, ap, subst, ◌∙◌, true≢false, arith, add-one, append_assoc, ℤ, ◌+ℤ◌}
-use Rattle.std.specs.Prelude.{◌↔◌, nat_le, option_map, unwrap_or, if◌then◌else◌}
+use Rattle.std.specs.Prelude.{◌↔◌, nat_le, option_map, unwrap_or, All, if◌then◌else◌}
 use Rattle.std.specs.List.{list_all}
 use Rattle.std.proofs.lemmas.Int.{ints}
 use Rattle.std.proofs.lemmas.Bool.Decides.{nat_tests}
 use Rattle.std.proofs.lemmas.List.{take_all, append-nil}
+use Rattle.std.proofs.lemmas.List.Elements.{All-from_recursion}
 use Rattle.std.proofs.lemmas.List.Folds.{list_all-append}
 use Rattle.std.proofs.lemmas.Grind.{flat_map-append}
 use Rattle.elastic_ast.specs.declared.declarations.Comp.{Comp}
@@ -20,7 +21,8 @@ use Rattle.elastic_ast.specs.Scope.{or_else, found}
 use Rattle.elastic_ast.specs.Demand.{first_broken}
 use Rattle.elastic_ast.specs.Asked.{asks_symbol, asks_term, asks_comp, asks_util, asks_decl, is_first}
 use Rattle.elastic_ast.specs.Typed.{broken_rule, first_of}
-use Rattle.elastic_ast.specs.Sums.{comps_of, comparisons, util_value, utils_value, utility_of, utility_terms, symbol_name, symbols_of, Assumes}
+use Rattle.elastic_ast.specs.Sums.{comps_of, comparisons, util_value, utils_value, utility_of, utility_terms, symbol_name, symbols_of, IsCounted, Assumes}
+use Rattle.elastic_ast.specs.Counted.{counted_in_decl, counted_symbols}
 use Rattle.elastic_ast.proofs.First.{first-append}
 use Rattle.elastic_ast.proofs.TypedLaws.{none_both}
 use Rattle.width_check.specs.Begun.{is_begun, is_linear}
@@ -159,5 +161,22 @@ utils_step symbols sum new ts i t sizes whole h e grown inv =
 pub rows_given : (given taken : List Decl) (names : List Name) (rows : List Linear) → given ≡ taken → names ≡ symbols_of (seen_decls given) → AddsComps names [] rows (comparisons (seen_decls given)) → rows ≡ rows_of (seen_decls taken)
 rows_given given taken names rows e n adds = adds.added ∙ ap (λ z. flat_map (rows_of_comp z) (comparisons (seen_decls given))) n ∙ ap (λ z. rows_of (seen_decls z)) e
 
-pub rows_assume : (decls : List PlainDecl) (rows : List Linear) → rows ≡ rows_of decls → (sizes : List ℕ) → RowsHold rows sizes ↔ Assumes decls sizes
-rows_assume decls rows e sizes = subst (λ (z : List Linear). RowsHold z sizes ↔ Assumes decls sizes) (sym e) (rows_are decls sizes)
+-- no declaration that the checker takes counts anything
+begun_counts : (d : PlainDecl) → is_begun d ≡ true → counted_in_decl d ≡ []
+begun_counts (PlainDecl.Register name width cells size) h = cc
+begun_counts (PlainDecl.Parser name states) h = cc
+begun_counts (PlainDecl.Control name locals body) h = cc
+begun_counts _ h = refl
+
+none_counted : (ds : List PlainDecl) → list_all is_begun ds ≡ true → counted_symbols ds ≡ []
+none_counted [] h = refl
+none_counted (d ∷ ds) h =
+    ap (λ (z : List Name). z ++ counted_symbols ds) (begun_counts d (left (is_begun d) (list_all is_begun ds) h))
+    ∙ none_counted ds (right (is_begun d) (list_all is_begun ds) h)
+
+pub rows_assume : (decls : List PlainDecl) (rows : List Linear) → IsSound decls → rows ≡ rows_of decls → (sizes : List ℕ) → RowsHold rows sizes ↔ Assumes decls sizes
+rows_assume decls rows sound e sizes =
+    let compare = rows_are decls sizes in
+    let none : All (IsCounted decls sizes) (counted_symbols decls) = subst (All (IsCounted decls sizes)) (sym (none_counted decls sound.begun)) (All-from_recursion (IsCounted decls sizes) [] tt) in
+    subst (λ (z : List Linear). RowsHold z sizes ↔ Assumes decls sizes) (sym e)
+    (λ h. record { compared = compare.0 h; counted = none }, λ a. compare.1 a.compared)

@@ -14,7 +14,7 @@ use Rattle.elastic_ast.specs.declared.declarations.Rel.TheVariants as rel
 use Rattle.elastic_ast.specs.declared.flat.Linear.{Linear}
 use Rattle.elastic_ast.specs.Tree.{Name, PlainDecl}
 use Rattle.elastic_ast.specs.Scope.{same}
-use Rattle.elastic_ast.specs.Sums.{signed, size_of, count_of, term_value, sum_value, Compares, Holds, symbols_of, comparisons, Assumes}
+use Rattle.elastic_ast.specs.Sums.{signed, size_of, count_of, term_value, sum_value, Compares, Holds, symbols_of, comparisons, Compared}
 use Rattle.size_terms.specs.Rows.{dot, RowHolds, RowsHold}
 use Rattle.size_terms.specs.Coefficients.{number_at, symbol_number, lone_number, coefficient, constant_of, row_below, compared_rows, rows_of_comp, rows_of}
 use Rattle.size_terms.proofs.SumLaws.{within_from}
@@ -146,5 +146,5 @@ comps_say symbols sizes (c ∷ cs) =
     )
 
 -- the rows of a program hold exactly where its assume clauses are true
-pub rows_are : (decls : List PlainDecl) (sizes : List ℕ) → RowsHold (rows_of decls) sizes ↔ Assumes decls sizes
+pub rows_are : (decls : List PlainDecl) (sizes : List ℕ) → RowsHold (rows_of decls) sizes ↔ Compared decls sizes
 rows_are decls sizes = comps_say (symbols_of decls) sizes (comparisons decls)

@@ -8,4 +8,4 @@ returns-clause-rows c =
     rows_given c.as_slice-decls.result.now c.args.checked.now c.as_slice.result.now c.in_ok-rows.rows (c.as_slice-decls.ensures ∙ c.program.ensures.here) (c.as_slice.ensures ∙ c.in_ok-symbols.ensures) c.in_ok-rows.ensures.rows
 
 pub returns-clause-assumes : goal.returns-clause-assumes
-returns-clause-assumes c = rows_assume (seen_decls c.args.checked.now) c.in_ok-rows.rows (returns-clause-rows c)
+returns-clause-assumes c = rows_assume (seen_decls c.args.checked.now) c.in_ok-rows.rows c.program.ensures.sound (returns-clause-rows c)
