@@ -30,8 +30,10 @@ pub mod Locations
 pub mod PacketBits
 pub mod Parts
 pub mod Taken
+pub mod TakenLocations
 pub mod Given
 pub mod Packets
 pub mod WorkedValues
 pub mod WorkedProgram
 pub mod WorkedPackets
+pub mod WorkedSources

@@ -14,9 +14,11 @@ use Rattle.elastic_ast.specs.Memory.{Words}
 abbrev pub PlaceWidth : Type 0
 PlaceWidth = List ℕ × ℕ
 
+abbrev pub field_locations : Name → List Field → List PlaceWidth
+field_locations header fields = map (λ field. (place (location.Header header field.name) None, field.width)) fields
+
 abbrev pub member_locations : List PlainDecl → Name × Name → List PlaceWidth
-member_locations decls member =
-    (valid_place member.1, 1) ∷ map (λ field. (place (location.Header member.1 field.name) None, field.width)) (fields_of_type decls member.0)
+member_locations decls member = (valid_place member.1, 1) ∷ field_locations member.1 (fields_of_type decls member.0)
 
 -- one for each number below the count
 abbrev pub each_below : {A : Type 0} → ℕ → (ℕ → A) → List A
@@ -38,6 +40,14 @@ std_locations = map (λ field. (place (location.Std field.0) None, field.1)) std
 abbrev pub locations : List PlainDecl → List ℕ → List PlaceWidth
 locations decls sizes = flat_map (member_locations decls) (members_of decls) ++ (flat_map (meta_locations decls sizes) (meta_fields decls) ++ std_locations)
 
+-- the width of what stands at a place, where it is one of these
+abbrev pub width_found : List PlaceWidth → List ℕ → Option ℕ
+width_found places at = option_map (λ known. known.1) (find (λ known. same at known.0) places)
+
+-- and 0 where it is none of them
+abbrev pub width_at_place : List PlaceWidth → List ℕ → ℕ
+width_at_place places at = unwrap_or (width_found places at) 0
+
 -- all are 0, each in its width; a place that is none of them has a word of no width
 abbrev pub zeros : List PlainDecl → List ℕ → Words
-zeros decls sizes = λ at. (unwrap_or (option_map (λ known. known.1) (find (λ known. same at known.0) (locations decls sizes))) 0, 0)
+zeros decls sizes = λ at. (width_at_place (locations decls sizes) at, 0)

@@ -6,6 +6,8 @@ mod declarations;
 mod flat;
 mod key_hash;
 mod meaning_law;
+mod packet_examples;
+mod packet_law;
 mod registers;
 mod rule;
 mod slot;
@@ -25,6 +27,8 @@ pub use flat::{
 };
 pub use key_hash::{HASH_START, hash_bytes, hash_number};
 pub use meaning_law::{law_of_packets, law_of_statements, law_of_values};
+pub use packet_examples::{examples_of_answers, examples_of_registers};
+pub use packet_law::law_of_taken_locations;
 pub use registers::Registers;
 pub use rule::Rule;
 pub use statements::{Amount, Expr, Lval, RegRef, Stmt};

@@ -1,0 +1,169 @@
+-- Worked programs with one header, and what they do with packets, for the equations that show what programs mean; this
+-- project's own.
+use Rattle.std.specs.Prelude.{ℕ, false, true, List, [], ◌∷◌, ◌++◌, Option, Some, None, codes}
+use Rattle.elastic_ast.specs.declared.declarations.Field.{Field}
+use Rattle.elastic_ast.specs.declared.flat.Packet.{Packet}
+use Rattle.elastic_ast.specs.declared.flat.Out.{Out}
+use Rattle.elastic_ast.specs.declared.statements.Amount.TheVariants as amount
+use Rattle.elastic_ast.specs.declared.statements.Lval.{Lval}
+use Rattle.elastic_ast.specs.declared.statements.Lval.TheVariants as lval
+use Rattle.elastic_ast.specs.declared.statements.RegRef.{RegRef}
+use Rattle.elastic_ast.specs.Tree.{Name, PlainDecl, PlainExpr, PlainStmt, PlainKeyset, PlainEntry, PlainLocal, PlainNext}
+use Rattle.elastic_ast.specs.Memory.{Cells}
+use Rattle.elastic_ast.specs.Packets.{packets_meaning}
+use Rattle.elastic_ast.specs.WorkedProgram.{stmts}
+use Rattle.elastic_ast.specs.WorkedValues.{bare}
+
+-- A program around one header `hdr.h`, which the one state of the parser extracts and the deparser emits: what stands in
+-- front, the fields of the header, the metadata, the registers, and the actions and tables and the body of the control
+abbrev pub frame : List PlainDecl → List Field → List Field → List PlainDecl → List PlainLocal → List PlainStmt → List PlainDecl
+frame before fields metadata registers locals body =
+    before
+    ++ (PlainDecl.Header (codes "h_t") fields
+    ∷ PlainDecl.Headers ((codes "h_t", codes "h") ∷ [])
+    ∷ PlainDecl.Meta metadata
+    ∷ (registers
+    ++ (PlainDecl.Parser (codes "P") (record { name = codes "start"; extracts = codes "h" ∷ []; next = PlainNext.To (codes "accept") } ∷ [])
+    ∷ PlainDecl.Control (codes "C") locals (stmts body)
+    ∷ PlainDecl.Deparser (codes "D") (codes "h" ∷ [])
+    ∷ PlainDecl.Main (codes "P") (codes "C") (codes "D")
+    ∷ [])))
+
+abbrev pub bits : ℕ → Name → Field
+bits width name = record { name = name; width = width; size = None }
+
+abbrev pub array : ℕ → Name → Name → Field
+array width size name = record { name = name; width = width; size = Some size }
+
+-- `hdr.h.NAME`, `meta.NAME` and `std.NAME`
+abbrev pub of_header : Name → Lval
+of_header name = lval.Header (codes "h") name
+
+abbrev pub of_meta : Name → Lval
+of_meta name = lval.Meta name None
+
+abbrev pub of_std : Name → Lval
+of_std name = lval.Std name
+
+abbrev pub at : Lval → PlainExpr
+at = PlainExpr.At
+
+abbrev pub plus : PlainExpr → PlainExpr → PlainExpr
+plus left right = PlainExpr.Binary 13 left right
+
+abbrev pub is_equal : PlainExpr → PlainExpr → PlainExpr
+is_equal left right = PlainExpr.Binary 2 left right
+
+abbrev pub alone : Name → RegRef
+alone name = record { name = name; index = None }
+
+abbrev pub packet : ℕ → List ℕ → Packet
+packet port bytes = record { port = port; bytes = bytes }
+
+-- so many bytes of one number
+abbrev pub sixteen : ℕ → List ℕ
+sixteen byte = byte ∷ byte ∷ byte ∷ byte ∷ byte ∷ byte ∷ byte ∷ byte ∷ byte ∷ byte ∷ byte ∷ byte ∷ byte ∷ byte ∷ byte ∷ byte ∷ []
+
+-- registers of these cells, whatever their names
+abbrev pub all_with : List ℕ → Cells
+all_with cells = λ name index. cells
+
+abbrev pub answers_of : List PlainDecl → List ℕ → List ℕ → List Packet → List Out
+answers_of program sizes cells packets = (packets_meaning program sizes (all_with cells) packets).1
+
+abbrev pub cells_of : List PlainDecl → List ℕ → List ℕ → List Packet → Name → Option ℕ → List ℕ
+cells_of program sizes cells packets = (packets_meaning program sizes (all_with cells) packets).0
+
+-- `hdr.h.x = hdr.h.y; hdr.h.y = 1;`
+abbrev pub swap_then_set : List PlainDecl
+swap_then_set =
+    frame [] (bits 8 (codes "x") ∷ bits 8 (codes "y") ∷ []) [] [] []
+    (PlainStmt.Assign (of_header (codes "x")) (at (of_header (codes "y"))) ∷ PlainStmt.Assign (of_header (codes "y")) (bare 1) ∷ [])
+
+-- `if (hdr.h.a == 0) { hdr.h.a = 1; hdr.h.b = 2; }`
+abbrev pub changed_condition : List PlainDecl
+changed_condition =
+    frame [] (bits 8 (codes "a") ∷ bits 8 (codes "b") ∷ []) [] [] []
+    (PlainStmt.If (is_equal (at (of_header (codes "a"))) (bare 0))
+    (stmts (PlainStmt.Assign (of_header (codes "a")) (bare 1) ∷ PlainStmt.Assign (of_header (codes "b")) (bare 2) ∷ []))
+    ∷ [])
+
+-- `action note() { meta.n = seen.read(0); seen.write(0, meta.n + 1); }`, and the body
+-- `note(); if (hdr.h.big == 0) { std.drop = 1; } hdr.h.big = hdr.h.big + 1; std.out_port = std.in_port;`
+abbrev pub count_big_headers : List PlainDecl
+count_big_headers =
+    frame [] (bits 128 (codes "big") ∷ []) (bits 8 (codes "n") ∷ []) (PlainDecl.Register (codes "seen") 8 (amount.Num 1) None ∷ [])
+    (PlainLocal.OfAction record {
+      name = codes "note";
+      index = None;
+      params = [];
+      body = stmts
+          (PlainStmt.Read (of_meta (codes "n")) (alone (codes "seen")) (bare 0)
+          ∷ PlainStmt.Write (alone (codes "seen")) (bare 0) (plus (at (of_meta (codes "n"))) (bare 1))
+          ∷ []);
+    } ∷ [])
+    (PlainStmt.Call (codes "note") None []
+    ∷ PlainStmt.If (is_equal (at (of_header (codes "big"))) (bare 0)) (stmts (PlainStmt.Assign (of_std (codes "drop")) (bare 1) ∷ []))
+    ∷ PlainStmt.Assign (of_header (codes "big")) (plus (at (of_header (codes "big"))) (bare 1))
+    ∷ PlainStmt.Assign (of_std (codes "out_port")) (at (of_std (codes "in_port")))
+    ∷ [])
+
+-- `action note() { meta.n = r.read(1); r.write(1, meta.n + hdr.h.v); }`, and the body
+-- `@stage(0) { note(); } @stage(1) { hdr.h.v = meta.n; }`
+abbrev pub two_staged_blocks : List PlainDecl
+two_staged_blocks =
+    frame [] (bits 8 (codes "v") ∷ []) (bits 8 (codes "n") ∷ []) (PlainDecl.Register (codes "r") 8 (amount.Num 4) None ∷ [])
+    (PlainLocal.OfAction record {
+      name = codes "note";
+      index = None;
+      params = [];
+      body = stmts
+          (PlainStmt.Read (of_meta (codes "n")) (alone (codes "r")) (bare 1)
+          ∷ PlainStmt.Write (alone (codes "r")) (bare 1) (plus (at (of_meta (codes "n"))) (at (of_header (codes "v"))))
+          ∷ []);
+    } ∷ [])
+    (PlainStmt.Block (Some 0) (stmts (PlainStmt.Call (codes "note") None [] ∷ []))
+    ∷ PlainStmt.Block (Some 1) (stmts (PlainStmt.Assign (of_header (codes "v")) (at (of_meta (codes "n"))) ∷ []))
+    ∷ [])
+
+-- `hdr.h.o = hash(0, hdr.h.x, 256);`
+abbrev pub hashed_header : List PlainDecl
+hashed_header =
+    frame [] (bits 128 (codes "x") ∷ bits 32 (codes "o") ∷ []) [] [] []
+    (PlainStmt.Assign (of_header (codes "o")) (PlainExpr.Hash (amount.Num 0) (at (of_header (codes "x"))) (amount.Num 256)) ∷ [])
+
+-- `action set(bit<8> n) { hdr.h.x = n; }`, the table
+-- `table t { key = { hdr.h.x : ternary; } actions = { set; NoAction; } const entries = { (5 &&& 0xF) : set(1);
+-- (0x15) : set(2); } default_action = NoAction(); }`, and the body `t.apply();`
+abbrev pub entry : PlainKeyset → ℕ → PlainEntry
+entry set number = record { keys = set ∷ []; action = codes "set"; args = bare number ∷ [] }
+
+abbrev pub ternary_table : List PlainDecl
+ternary_table =
+    frame [] (bits 8 (codes "x") ∷ []) [] []
+    (PlainLocal.OfAction record {
+      name = codes "set";
+      index = None;
+      params = record { name = codes "n"; width = 8 } ∷ [];
+      body = stmts (PlainStmt.Assign (of_header (codes "x")) (PlainExpr.Named (codes "n")) ∷ []);
+    }
+    ∷ PlainLocal.OfTable record {
+      name = codes "t";
+      keys = record { field = of_header (codes "x"); ternary = true } ∷ [];
+      actions = codes "set" ∷ codes "NoAction" ∷ [];
+      entries = entry (PlainKeyset.Masked (bare 5) (bare 0xF)) 1 ∷ entry (PlainKeyset.One (bare 0x15)) 2 ∷ [];
+      fallback = Some (codes "NoAction", []);
+      size = None;
+    }
+    ∷ [])
+    (PlainStmt.Apply (codes "t") ∷ [])
+
+-- `symbolic int n; assume(n <= 4);`, `Register<bit<8>>(2)[n] r;`, and the body
+-- `for (i < n) { r[i].write(1, hdr.h.v + 1); } hdr.h.v = hdr.h.v + 250;`
+abbrev pub counted_rows : List PlainDecl
+counted_rows =
+    frame (PlainDecl.Symbol (codes "n") ∷ []) (bits 8 (codes "v") ∷ []) [] (PlainDecl.Register (codes "r") 8 (amount.Num 2) (Some (codes "n")) ∷ []) []
+    (PlainStmt.For (codes "i") (codes "n")
+    (stmts (PlainStmt.Write (record { name = codes "r"; index = Some (codes "i") }) (bare 1) (plus (at (of_header (codes "v"))) (bare 1)) ∷ []))
+    ∷ PlainStmt.Assign (of_header (codes "v")) (plus (at (of_header (codes "v"))) (bare 250))
+    ∷ [])
