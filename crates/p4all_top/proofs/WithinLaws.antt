@@ -84,7 +84,7 @@ pub bounds_law : (decls : List PlainDecl) (target : Target) (sizes : List ℕ) (
 bounds_law decls target sizes placement good place bound e =
     lesser_law (bits_bound target.header_bits (symbol_bits (symbols_of decls) place (metadata decls))) (rows_bound place (rows_of decls)) (get_or sizes place 0) bound
     (λ n f. bits_law (symbol_bits (symbols_of decls) place (metadata decls)) target.header_bits (get_or sizes place 0) n (let h = header_law decls sizes place in let most = good.header in omega (arith, h, most)) f)
-    (λ n f. rows_law (rows_of decls) sizes place n ((rows_are decls sizes).1 good.assumed) f) e
+    (λ n f. rows_law (rows_of decls) sizes place n ((rows_are decls sizes).1 good.assumed.compared) f) e
 
 within_each : (sizes bounds : List ℕ) → length sizes ≡ length bounds → ((k : ℕ) → k < length bounds → get_or sizes k 0 ≤ get_or bounds k 0) → IsWithin sizes bounds
 within_each [] [] e each = tt
