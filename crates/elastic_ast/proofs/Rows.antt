@@ -18,7 +18,7 @@ use Rattle.elastic_ast.specs.Demand.{fixed_names}
 use Rattle.elastic_ast.specs.Typed.{Typed, broken_rule, first_of}
 use Rattle.elastic_ast.specs.Sums.{size_of, sum_value, utility, comparisons, Holds, IsCounted, Assumes}
 use Rattle.elastic_ast.specs.Counted.{counted_symbols}
-use Rattle.elastic_ast.proofs.TypedLaws.{walk_passes}
+use Rattle.elastic_ast.proofs.TypedLaws.{walk_passes, no_parts}
 
 abbrev rows : Name
 rows = codes "rows"
@@ -108,7 +108,7 @@ small_breaks_none = refl
 
 small_typed : Typed false small
 unfolding first
-small_typed = walk_passes false small small_breaks_none
+small_typed = walk_passes false small small_breaks_none (no_parts small refl)
 
 -- the sizes of its symbols, and of a name that is none
 size_of_cols : size_of (rows ∷ cols ∷ []) (3 ∷ 100 ∷ []) cols ≡ 100

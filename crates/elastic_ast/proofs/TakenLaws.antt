@@ -10,14 +10,14 @@ use Rattle.elastic_ast.specs.Tree.{Name, PlainDecl, PlainState, PlainNext}
 use Rattle.elastic_ast.specs.Scope.{same, among, or_else}
 use Rattle.elastic_ast.specs.Sums.{symbols_of, size_of}
 use Rattle.elastic_ast.specs.Places.{place, valid_place}
-use Rattle.elastic_ast.specs.LookUps.{members_of, fields_of_type, header_fields, header_bits, meta_fields, width_among, std_fields}
+use Rattle.elastic_ast.specs.LookUps.{members_of, member_name, is_member, fields_of_type, header_fields, header_bits, meta_fields, width_among, std_fields}
 use Rattle.elastic_ast.specs.Memory.{Memory, Words, Writes, At, held, words_of, written_or, over, and_then, put}
 use Rattle.elastic_ast.specs.Locations.{PlaceWidth, field_locations, member_locations, each_below, meta_locations, std_locations, locations, width_found, width_at_place, zeros}
 use Rattle.elastic_ast.specs.PacketBits.{bits_at}
 use Rattle.elastic_ast.specs.Parts.{states_of}
 use Rattle.elastic_ast.specs.Written.{outside}
 use Rattle.elastic_ast.specs.Taken.{Parsed, fields_writes, extracted, all_extracted, next_of, parsed_from, at_entry, parsed_by, taken_of, taken}
-use Rattle.elastic_ast.specs.TakenLocations.{IsTidy, HasLocations, are_apart, is_member, extracts_members, IsExtractable}
+use Rattle.elastic_ast.specs.TakenLocations.{IsTidy, HasLocations, are_apart, extracts_members, IsExtractable}
 use Rattle.elastic_ast.proofs.PlaceLaws.{place_tells}
 
 -- names and places
@@ -133,12 +133,12 @@ fields_found header field width (f ∷ fields) h = rw (same_place) (by (same fie
     by true ih e = e
     by false ih e = ih e
 
-valid_found : (decls : List PlainDecl) (header : Name) (members : List (Name × Name)) → is_some (find (λ member. same header member.1) members) ≡ true → width_found (flat_map (member_locations decls) members) (valid_place header) ≡ Some 1
+valid_found : (decls : List PlainDecl) (header : Name) (members : List (Name × Name)) → among (map member_name members) header ≡ true → width_found (flat_map (member_locations decls) members) (valid_place header) ≡ Some 1
 valid_found decls header [] h = cc
 valid_found decls header (member ∷ members) h = by (same header member.1) (valid_found decls header members) h
   where
-    by : (b : Bool) → (is_some (find (λ member. same header member.1) members) ≡ true → width_found (flat_map (member_locations decls) members) (valid_place header) ≡ Some 1)
-        → is_some (cond b (Some member) (find (λ member. same header member.1) members)) ≡ true
+    by : (b : Bool) → (among (map member_name members) header ≡ true → width_found (flat_map (member_locations decls) members) (valid_place header) ≡ Some 1)
+        → (b || among (map member_name members) header) ≡ true
         → option_map (λ (known : PlaceWidth). known.1) (cond b (Some (valid_place member.1, 1)) (find (λ known. same (valid_place header) known.0) (field_locations member.1 (fields_of_type decls member.0) ++ flat_map (member_locations decls) members))) ≡ Some 1
     by true ih e = refl
     by false ih e = found_later (field_locations member.1 (fields_of_type decls member.0)) (flat_map (member_locations decls) members) (valid_place header) (no_field 1 (0 ∷ header) refl member.1 (fields_of_type decls member.0)) ∙ ih e

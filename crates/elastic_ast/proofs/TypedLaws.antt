@@ -1,12 +1,14 @@
 -- From the first broken rule to the rules: where one is named it is broken there, and where none is named none is broken.
-use Rattle.std.proofs.Common.{◌≡◌, ℕ, zero, suc, ◌+◌, ◌⊎◌, inl, inr, Bool, true, false, List, [], ◌∷◌, ◌++◌, take, Option, Some, None, refl, sym, ap, subst, ◌∙◌, true≢false, arith, add-zero, append_assoc}
+use Rattle.std.proofs.Common.{◌≡◌, ℕ, zero, suc, ◌+◌, ◌&&◌, ◌⊎◌, inl, inr, Bool, true, false, List, [], ◌∷◌, ◌++◌, take, Option, Some, None, refl, sym, ap, subst, ◌∙◌, true≢false, arith, add-zero, append_assoc}
 use Rattle.std.specs.Prelude.{if◌then◌else◌, option_map, slice_get, Contains}
+use Rattle.std.specs.List.{list_all}
 use Rattle.elastic_ast.specs.declared.rule.Rule.{Rule}
+use Rattle.elastic_ast.specs.declared.rule.Rule.TheVariants.{RegisterTwice, RegisterUnused, ParserLoop, NoMain}
 use Rattle.elastic_ast.specs.Tree.{PlainDecl}
 use Rattle.elastic_ast.specs.Scope.{or_else}
 use Rattle.elastic_ast.specs.Demand.{Demand, met, rule_of, first_broken}
 use Rattle.elastic_ast.specs.Asked.{asked}
-use Rattle.elastic_ast.specs.Typed.{Breaks, Typed, broken_rule, first_of}
+use Rattle.elastic_ast.specs.Typed.{BreaksWhole, Breaks, Typed, broken_rule, first_of}
 
 -- a demand of this rule isn't met
 pub record Unmet (allow : Bool) (qs : List Demand) (r : Rule) : Type 0 where
@@ -96,12 +98,53 @@ walk_names allow ds r d h =
     let u : FoundAt (broken_rule allow) 0 [] ds r d = first_of_some (broken_rule allow) 0 [] ds r d h in
     let e : u.place ≡ d = omega (arith, u.number) in
     let m : Unmet allow (asked (take u.place ds) u.at) r = first_unmet allow (asked (take u.place ds) u.at) r u.broken in
-    (u.at, m.demand, ap (slice_get ds) (sym e) ∙ u.here, subst (λ z. Contains (asked (take z ds) u.at) m.demand) e m.there, m.of_rule, m.unmet)
+    (u.at, ap (slice_get ds) (sym e) ∙ u.here, inl (m.demand, subst (λ z. Contains (asked (take z ds) u.at) m.demand) e m.there, m.of_rule, m.unmet))
 
 -- and where it names nothing, each demand of each declaration is met
 pub walk_meets : (allow : Bool) (ds : List PlainDecl) → first_of (broken_rule allow) 0 [] ds ≡ None → (d : ℕ) (x : PlainDecl) → slice_get ds d ≡ Some x → (q : Demand) → Contains (asked (take d ds) x) q → met allow q ≡ true
 unfolding broken_rule
 walk_meets allow ds h d x e q there = all_met allow (asked (take d ds) x) (first_of_none (broken_rule allow) 0 [] ds h d x e) q there
 
-pub walk_passes : (allow : Bool) (ds : List PlainDecl) → first_of (broken_rule allow) 0 [] ds ≡ None → Typed allow ds
-walk_passes allow ds h r d (x, q, e, there, of_rule, unmet) = true≢false (sym (walk_meets allow ds h d x e q there) ∙ unmet)
+-- no declaration breaks one of the rules of the whole program
+abbrev pub MeetsWhole : List PlainDecl → Type 0
+MeetsWhole ds = (r : Rule) (d : ℕ) (x : PlainDecl) → slice_get ds d ≡ Some x → BreaksWhole ds r x → ⊥
+
+pub walk_passes : (allow : Bool) (ds : List PlainDecl) → first_of (broken_rule allow) 0 [] ds ≡ None → MeetsWhole ds → Typed allow ds
+walk_passes allow ds h whole r d (x, e, inl (q, there, of_rule, unmet)) = true≢false (sym (walk_meets allow ds h d x e q there) ∙ unmet)
+walk_passes allow ds h whole r d (x, e, inr broken) = whole r d x e broken
+
+-- the declaration is of a form that no rule of the whole program speaks of
+abbrev pub is_no_part : PlainDecl → Bool
+is_no_part (PlainDecl.Register name width cells size) = false
+is_no_part (PlainDecl.Parser name states) = false
+is_no_part (PlainDecl.Control name locals body) = false
+is_no_part (PlainDecl.Deparser name emits) = false
+is_no_part (PlainDecl.Main parser control deparser) = false
+is_no_part _ = true
+
+no_part : (ds : List PlainDecl) (r : Rule) (x : PlainDecl) → is_no_part x ≡ true → BreaksWhole ds r x → ⊥
+no_part ds ParserLoop (PlainDecl.Parser name states) h b = true≢false (sym h)
+no_part ds RegisterTwice (PlainDecl.Register name width cells size) h b = true≢false (sym h)
+no_part ds RegisterUnused (PlainDecl.Register name width cells size) h b = true≢false (sym h)
+no_part ds NoMain (PlainDecl.Parser name states) h b = true≢false (sym h)
+no_part ds NoMain (PlainDecl.Control name locals body) h b = true≢false (sym h)
+no_part ds NoMain (PlainDecl.Deparser name emits) h b = true≢false (sym h)
+no_part ds NoMain (PlainDecl.Main parser control deparser) h b = true≢false (sym h)
+no_part ds _ _ h b = b
+
+each : (f : PlainDecl → Bool) (ds : List PlainDecl) (d : ℕ) (x : PlainDecl) → list_all f ds ≡ true → slice_get ds d ≡ Some x → f x ≡ true
+each f [] d x h e = cc
+each f (y ∷ ys) zero x h e = let s : y ≡ x = cc in ap f (sym s) ∙ first (f y) (list_all f ys) h
+  where
+    first : (a b : Bool) → (a && b) ≡ true → a ≡ true
+    first true b h = refl
+    first false b h = cc
+each f (y ∷ ys) (suc d) x h e = each f ys d x (rest (f y) (list_all f ys) h) e
+  where
+    rest : (a b : Bool) → (a && b) ≡ true → b ≡ true
+    rest true b h = h
+    rest false b h = cc
+
+-- declarations of such forms break no rule of the whole program
+pub no_parts : (ds : List PlainDecl) → list_all is_no_part ds ≡ true → MeetsWhole ds
+no_parts ds h r d x e b = no_part ds r x (each is_no_part ds d x h e) b

@@ -3,6 +3,12 @@ pub mod Seen
 pub mod SeenLaws
 pub mod Scope
 pub mod Demand
+pub mod AskedOfNames
+pub mod AskedInExpressions
+pub mod AskedInStatements
+pub mod NamedRegisters
+pub mod AskedInLocals
+pub mod ParserLoops
 pub mod Asked
 pub mod Typed
 pub mod Counted

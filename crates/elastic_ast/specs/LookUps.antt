@@ -1,9 +1,9 @@
 -- What declarations declare, each thing by its name: constants, header types, headers, metadata, registers, actions and
 -- tables (P4-16 language specification 1.2.3, section 6.8; the fields of `std` are this project's own).
-use Rattle.std.specs.Prelude.{ℕ, List, [], ◌∷◌, flat_map, find, sum_by, Option, Some, None, option_map, unwrap_or, codes, if◌then◌else◌}
+use Rattle.std.specs.Prelude.{ℕ, Bool, List, [], ◌∷◌, map, flat_map, find, sum_by, Option, Some, None, option_map, unwrap_or, is_some, codes, if◌then◌else◌}
 use Rattle.elastic_ast.specs.declared.declarations.Field.{Field}
 use Rattle.elastic_ast.specs.Tree.{Name, PlainDecl, PlainLocal, PlainAction, PlainTable}
-use Rattle.elastic_ast.specs.Scope.{same, found}
+use Rattle.elastic_ast.specs.Scope.{same, among, found}
 
 -- a constant of this name, as its width and its number
 abbrev pub constant_in : Name → PlainDecl → Option (ℕ × ℕ)
@@ -28,6 +28,20 @@ members_of decls = unwrap_or (found members_in decls) []
 abbrev pub fields_of_type : List PlainDecl → Name → List Field
 fields_of_type decls name = unwrap_or (found (header_type_in name) decls) []
 
+abbrev pub is_header_type : List PlainDecl → Name → Bool
+is_header_type decls name = is_some (found (header_type_in name) decls)
+
+-- `headers_t` is declared
+abbrev pub has_headers : List PlainDecl → Bool
+has_headers decls = is_some (found members_in decls)
+
+abbrev pub member_name : Name × Name → Name
+member_name member = member.1
+
+-- the name is that of a header
+abbrev pub is_member : List PlainDecl → Name → Bool
+is_member decls header = among (map member_name (members_of decls)) header
+
 -- the fields of a header, which is a member of `headers_t`, in the order of the text
 abbrev pub header_fields : List PlainDecl → Name → List Field
 header_fields decls header =
@@ -43,6 +57,13 @@ meta_in _ = None
 
 abbrev pub meta_fields : List PlainDecl → List Field
 meta_fields decls = unwrap_or (found meta_in decls) []
+
+-- `meta_t` is declared
+abbrev pub has_meta : List PlainDecl → Bool
+has_meta decls = is_some (found meta_in decls)
+
+abbrev pub meta_field : List PlainDecl → Name → Option Field
+meta_field decls name = find (λ field. same name field.name) (meta_fields decls)
 
 abbrev pub width_among : List Field → Name → Option ℕ
 width_among fields name = option_map (λ field. field.width) (find (λ field. same name field.name) fields)
@@ -61,6 +82,14 @@ register_in name _ = None
 
 abbrev pub register_width : List PlainDecl → Name → Option ℕ
 register_width decls name = found (register_in name) decls
+
+-- a register of this name, as the size that it has where it is an array
+abbrev pub register_size_in : Name → PlainDecl → Option (Option Name)
+register_size_in name (PlainDecl.Register register width cells size) = if same name register then Some size else None
+register_size_in name _ = None
+
+abbrev pub register_size : List PlainDecl → Name → Option (Option Name)
+register_size decls name = found (register_size_in name) decls
 
 abbrev pub locals_in : PlainDecl → List PlainLocal
 locals_in (PlainDecl.Control control locals body) = locals

@@ -1,7 +1,8 @@
 -- What a name means at a place: what the declarations before it declare (P4-16 language specification 1.2.3, section 6.8;
 -- the kinds of things are this project's own).
-use Rattle.std.specs.Prelude.{Bool, List, [], ◌∷◌, Option, Some, None, is_some, bytes_eq, if◌then◌else◌}
+use Rattle.std.specs.Prelude.{Bool, false, List, [], ◌∷◌, Option, Some, None, is_some, bytes_eq, if◌then◌else◌}
 use Rattle.std.specs.List.{list_any}
+use Rattle.elastic_ast.specs.declared.declarations.Param.{Param}
 use Rattle.elastic_ast.specs.Tree.{Name, PlainDecl}
 
 abbrev pub same : Name → Name → Bool
@@ -27,3 +28,23 @@ symbol_of name _ = None
 -- one of the declarations declares a symbol of this name
 abbrev pub is_symbol : List PlainDecl → Name → Bool
 is_symbol decls name = is_some (found (symbol_of name) decls)
+
+-- Where an expression stands: after which declarations, with which parameters, and with which index of a loop or an action
+-- around it. The sizes are those of the loops that the index may be of: of one loop, or of all loops that call the action.
+pub record Scope : Type 0 where
+  pub before : List PlainDecl
+  pub params : List Param
+  pub index : Option Name
+  pub sizes : List Name
+
+-- outside of actions and loops
+abbrev pub top : List PlainDecl → Scope
+top decls = record { before = decls; params = []; index = None; sizes = [] }
+
+-- the name is that of the index around
+abbrev pub is_index : Scope → Name → Bool
+is_index scope name = of scope.index
+  where
+    of : Option Name → Bool
+    of None = false
+    of (Some index) = same name index

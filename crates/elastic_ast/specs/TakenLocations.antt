@@ -1,12 +1,12 @@
 -- What a taken vector has, and what a program must keep for that: its parser extracts headers of the packet alone, and no
 -- two fields of a header have one name. This project's own.
-use Rattle.std.specs.Prelude.{◌≡◌, ℕ, ◌<◌, ◌^◌, Bool, true, not, ◌&&◌, List, [], ◌∷◌, map, find, Option, Some, is_some}
+use Rattle.std.specs.Prelude.{◌≡◌, ℕ, ◌<◌, ◌^◌, Bool, true, not, ◌&&◌, List, [], ◌∷◌, map, Some}
 use Rattle.std.specs.List.{list_all}
 use Rattle.elx_bits.specs.Words.{Word}
 use Rattle.elastic_ast.specs.declared.declarations.Field.{Field}
 use Rattle.elastic_ast.specs.Tree.{Name, PlainDecl, PlainState}
-use Rattle.elastic_ast.specs.Scope.{same, among}
-use Rattle.elastic_ast.specs.LookUps.{members_of, header_fields}
+use Rattle.elastic_ast.specs.Scope.{among}
+use Rattle.elastic_ast.specs.LookUps.{is_member, header_fields}
 use Rattle.elastic_ast.specs.Locations.{PlaceWidth, width_at_place, locations}
 use Rattle.elastic_ast.specs.Memory.{Words}
 use Rattle.elastic_ast.specs.Parts.{states_of}
@@ -25,9 +25,6 @@ HasLocations decls sizes words = (at : List ℕ) → IsTidy (locations decls siz
 abbrev pub are_apart : List Name → Bool
 are_apart [] = true
 are_apart (name ∷ names) = not (among names name) && are_apart names
-
-abbrev pub is_member : List PlainDecl → Name → Bool
-is_member decls header = is_some (find (λ member. same header member.1) (members_of decls))
 
 abbrev pub extracts_members : List PlainDecl → PlainState → Bool
 extracts_members decls state = list_all (is_member decls) state.extracts

@@ -19,7 +19,8 @@ use Rattle.elastic_ast.specs.Tree.{Name, PlainDecl}
 use Rattle.elastic_ast.specs.Seen.{seen_decl, seen_decls}
 use Rattle.elastic_ast.specs.Scope.{or_else, found}
 use Rattle.elastic_ast.specs.Demand.{first_broken}
-use Rattle.elastic_ast.specs.Asked.{asks_symbol, asks_term, asks_comp, asks_util, asks_decl, is_first}
+use Rattle.elastic_ast.specs.AskedOfNames.{asks_symbol}
+use Rattle.elastic_ast.specs.Asked.{asks_term, asks_comp, asks_util, asks_decl, is_first}
 use Rattle.elastic_ast.specs.Typed.{broken_rule, first_of}
 use Rattle.elastic_ast.specs.Sums.{comps_of, comparisons, util_value, utils_value, utility_of, utility_terms, symbol_name, symbols_of, IsCounted, Assumes}
 use Rattle.elastic_ast.specs.Counted.{counted_in_decl, counted_symbols}

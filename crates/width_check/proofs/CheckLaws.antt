@@ -8,9 +8,11 @@ use Rattle.elastic_ast.specs.Tree.{PlainDecl}
 use Rattle.elastic_ast.specs.Seen.{seen_decl, seen_decls}
 use Rattle.elastic_ast.specs.Scope.{or_else}
 use Rattle.elastic_ast.specs.Demand.{Demand, First, Plain, met, rule_of, first_broken}
-use Rattle.elastic_ast.specs.Asked.{asks_names, asks_decl, asked, top_name, top_names, is_first}
+use Rattle.elastic_ast.specs.AskedOfNames.{asks_names, top_name, top_names}
+use Rattle.elastic_ast.specs.Asked.{asks_decl, asked, is_first}
 use Rattle.elastic_ast.specs.Typed.{broken_rule, first_of}
 use Rattle.elastic_ast.proofs.First.{first-append}
+use Rattle.elastic_ast.proofs.TypedLaws.{is_no_part}
 use Rattle.std.specs.List.{list_all}
 use Rattle.width_check.specs.Begun.{is_begun}
 use Rattle.width_check.specs.Scoped.{before_of, next_names, name_broken}
@@ -100,3 +102,27 @@ sound_of false k before (d ∷ ds) h = by (first_broken false (asked before d)) 
 
 pub begun_step : (ds : List Decl) (i : ℕ) (d : Decl) (whole : Bool) → i < length ds → d ≡ get_or ds i d → is_begun (seen_decl d) ≡ true → list_all is_begun (seen_decls (drop i ds)) ≡ whole → list_all is_begun (seen_decls (drop (i + 1) ds)) ≡ whole
 begun_step ds i d whole h e begun inv = ap (λ b. b && list_all is_begun (seen_decls (drop (i + 1) ds))) (sym begun) ∙ ap (λ z. list_all is_begun (seen_decls z)) (sym (items_drop ds i d h e)) ∙ inv
+
+-- the forms that are taken so far are no parts of a pipeline
+begun_part : (d : PlainDecl) → is_begun d ≡ true → is_no_part d ≡ true
+begun_part (PlainDecl.Include n) h = refl
+begun_part (PlainDecl.Symbol n) h = refl
+begun_part (PlainDecl.Assume cs) h = refl
+begun_part (PlainDecl.Maximize ts) h = refl
+begun_part (PlainDecl.Const n w v) h = refl
+begun_part (PlainDecl.Header n fs) h = refl
+begun_part (PlainDecl.Headers ms) h = refl
+begun_part (PlainDecl.Meta fs) h = refl
+begun_part (PlainDecl.Register n w c s) h = h
+begun_part (PlainDecl.Parser n ss) h = h
+begun_part (PlainDecl.Control n ls b) h = h
+begun_part (PlainDecl.Deparser n es) h = h
+begun_part (PlainDecl.Main p c d) h = h
+
+both_true : (a b c d : Bool) → (a ≡ true → c ≡ true) → (b ≡ true → d ≡ true) → (a && b) ≡ true → (c && d) ≡ true
+both_true true b c d p q h = ap (λ z. z && d) (p refl) ∙ q h
+both_true false b c d p q h = absurd (true≢false (sym h))
+
+pub begun_parts : (ds : List PlainDecl) → list_all is_begun ds ≡ true → list_all is_no_part ds ≡ true
+begun_parts [] h = refl
+begun_parts (d ∷ ds) h = both_true (is_begun d) (list_all is_begun ds) (is_no_part d) (list_all is_no_part ds) (begun_part d) (begun_parts ds) h

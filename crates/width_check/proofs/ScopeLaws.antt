@@ -12,7 +12,8 @@ use Rattle.elastic_ast.specs.Tree.{Name, PlainDecl}
 use Rattle.elastic_ast.specs.Seen.{seen_decl, seen_decls}
 use Rattle.elastic_ast.specs.Scope.{same, among, or_else, found, symbol_of, is_symbol}
 use Rattle.elastic_ast.specs.Demand.{Fresh, Plain, met, rule_of, first_broken, fixed_names}
-use Rattle.elastic_ast.specs.Asked.{asks_names, top_name, top_names, once, has}
+use Rattle.elastic_ast.specs.AskedOfNames.{asks_names, top_name, top_names}
+use Rattle.elastic_ast.specs.Asked.{once, has}
 use Rattle.width_check.specs.Table.{names_in, IsRefusal}
 use Rattle.width_check.specs.declared.table.Refusal.{Refusal}
 use Rattle.width_check.specs.Scoped.{entries_seen, with_decl, names_with, named, are_new, are_distinct, before_of, next_names, name_broken}

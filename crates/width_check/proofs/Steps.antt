@@ -1,5 +1,6 @@
 -- One step through a list whose elements each ask something.
-use Rattle.std.proofs.Common.{◌≡◌, ℕ, zero, suc, ◌+◌, ◌<◌, Bool, List, [], ◌∷◌, drop, length, get_or, Option, Some, None, sym, ap, ◌∙◌, arith, add-one}
+use Rattle.std.proofs.Common.{◌≡◌, ℕ, zero, suc, ◌+◌, ◌<◌, Bool, true, false, ◌&&◌, List, [], ◌∷◌, drop, length, get_or, Option, Some, None, refl, sym, ap, ◌∙◌, arith, add-one}
+use Rattle.std.specs.List.{list_all}
 use Rattle.std.specs.Prelude.{flat_map, Result, Ok, Err, OnOk, IfErr}
 use Rattle.elastic_ast.specs.declared.rule.Rule.{Rule}
 use Rattle.elastic_ast.specs.Scope.{or_else}
@@ -46,3 +47,18 @@ refused_second (Err w) a b whole p q e = refusal_along w b whole p (sym (e ∙ a
 pub refused_first : (r : Refusal) (a b whole : Option Rule) → IsRefusal r a → whole ≡ or_else a b → IsRefusal r whole
 refused_first refusal.Memory a b whole p e = tt
 refused_first (refusal.Broken rule) a b whole p e = e ∙ ap (λ z. or_else z b) p
+
+-- what holds of each item from a place on holds of that at the place, and of those behind it
+module _ {X : Type 0} (f : X → Bool) where
+  at_head : (ys zs : List X) (x : X) → ys ≡ x ∷ zs → list_all f ys ≡ true → (f x ≡ true) × (list_all f zs ≡ true)
+  at_head ys zs x e h = both (f x) (list_all f zs) (sym (ap (list_all f) e) ∙ h)
+    where
+      both : (a b : Bool) → (a && b) ≡ true → (a ≡ true) × (b ≡ true)
+      both true b k = (refl, k)
+      both false b k = cc
+
+  pub item_all : (xs : List X) (i : ℕ) (x : X) → i < length xs → x ≡ get_or xs i x → list_all f (drop i xs) ≡ true → f x ≡ true
+  item_all xs i x h e k = (at_head (drop i xs) (drop (i + 1) xs) x (items_drop xs i x h e) k).0
+
+  pub rest_all : (xs : List X) (i : ℕ) (x : X) → i < length xs → x ≡ get_or xs i x → list_all f (drop i xs) ≡ true → list_all f (drop (i + 1) xs) ≡ true
+  rest_all xs i x h e k = (at_head (drop i xs) (drop (i + 1) xs) x (items_drop xs i x h e) k).1

@@ -7,7 +7,8 @@ use Rattle.elastic_ast.specs.Tree.{Name, PlainDecl}
 use Rattle.elastic_ast.specs.Seen.{seen_decl, seen_decls}
 use Rattle.elastic_ast.specs.Scope.{among}
 use Rattle.elastic_ast.specs.Demand.{first_broken}
-use Rattle.elastic_ast.specs.Asked.{asks_names, top_name, top_names, has}
+use Rattle.elastic_ast.specs.AskedOfNames.{asks_names, top_name, top_names}
+use Rattle.elastic_ast.specs.Asked.{has}
 
 abbrev pub option_list : {A : Type 0} → Option A → List A
 option_list None = []

@@ -1,12 +1,15 @@
 //! What each declaration asks, over the scope before it.
 
-ghost use Rattle.std.specs.Prelude.{◌≡◌, [], map, flat_map, IfOk, IfErr, OnOk, None};
+ghost use Rattle.std.specs.Prelude.{◌≡◌, true, [], map, flat_map, IfOk, IfErr, OnOk, None};
 ghost use Rattle.elastic_ast.specs.Seen.{seen_decl};
 ghost use Rattle.elastic_ast.specs.Scope.{or_else};
 ghost use Rattle.elastic_ast.specs.Demand.{first_broken};
-ghost use Rattle.elastic_ast.specs.Asked.{asks_symbol, asks_term, asks_comp, asks_util, asks_field, asks_fields, asks_decl, asks_names, field_name};
+ghost use Rattle.elastic_ast.specs.AskedOfNames.{asks_symbol, asks_names};
+ghost use Rattle.elastic_ast.specs.Asked.{asks_term, asks_comp, asks_util, asks_field, asks_fields, asks_decl, field_name};
 ghost use Rattle.width_check.specs.Table.{IsRefusal};
 ghost use Rattle.width_check.specs.Scoped.{before_of};
+ghost use Rattle.width_check.specs.Begun.{is_begun, is_linear};
+ghost use Rattle.std.specs.List.{list_all};
 
 use crate::scope::Scope;
 use crate::table::{Refusal, put};
@@ -96,6 +99,7 @@ fn check_assume(allow_reserved: bool, scope: &Scope<'_>, comps: &[Comp]) -> Opti
 }
 
 fn check_util(allow_reserved: bool, scope: &Scope<'_>, term: &UtilTerm) -> Option<Rule>
+    requires { is_linear term.now ≡ true }
     ensures { result ≡ first_broken allow_reserved (asks_util (before_of scope.now) term.now) }
 {
     match term {
@@ -110,6 +114,7 @@ fn check_util(allow_reserved: bool, scope: &Scope<'_>, term: &UtilTerm) -> Optio
 
 #[tactic(auto, using(elastic_ast::proofs::First::firsts))]
 fn check_utility(allow_reserved: bool, scope: &Scope<'_>, terms: &[UtilTerm]) -> Option<Rule>
+    requires { list_all is_linear terms.now ≡ true }
     ensures { result ≡ first_broken allow_reserved (flat_map (asks_util (before_of scope.now)) terms.now) }
 {
     for term in terms {
@@ -190,6 +195,7 @@ pub fn check_declaration(
     scope: &Scope<'_>,
     decl: &Decl,
 ) -> Result<(), Refusal>
+    requires { is_begun (seen_decl decl.now) ≡ true }
     ensures fine { OnOk result (first_broken allow_reserved (asks_decl (before_of scope.now) (seen_decl decl.now)) ≡ None) }
     ensures refused { IfErr result (λ refusal. IsRefusal refusal (first_broken allow_reserved (asks_decl (before_of scope.now) (seen_decl decl.now)))) }
 {
@@ -202,6 +208,32 @@ pub fn check_declaration(
             refusal_of(check_utility(allow_reserved, scope, terms.as_slice()))
         }
         Decl::Meta(fields) => check_metadata(alloc, allow_reserved, scope, fields.as_slice()),
-        _ => Ok(()),
+        Decl::Symbol(_) => Ok(()),
+        Decl::Include(_) => Ok(()),
+        Decl::Const {
+            name: _,
+            width: _,
+            value: _,
+        } => Ok(()),
+        Decl::Header { name: _, fields: _ } => Ok(()),
+        Decl::Headers(_) => Ok(()),
+        Decl::Register {
+            name: _,
+            width: _,
+            cells: _,
+            size: _,
+        } => Ok(()),
+        Decl::Parser { name: _, states: _ } => Ok(()),
+        Decl::Control {
+            name: _,
+            locals: _,
+            body: _,
+        } => Ok(()),
+        Decl::Deparser { name: _, emits: _ } => Ok(()),
+        Decl::Main {
+            parser: _,
+            control: _,
+            deparser: _,
+        } => Ok(()),
     }
 }

@@ -4,7 +4,8 @@ ghost use Rattle.std.specs.Prelude.{◌≡◌, ◌<◌, ◌+◌, ◌++◌, ◌==
 ghost use Rattle.std.specs.Option.{option_copied};
 ghost use Rattle.elastic_ast.specs.Seen.{seen_decl};
 ghost use Rattle.elastic_ast.specs.Scope.{is_symbol as is_symbol_of, symbol_of};
-ghost use Rattle.elastic_ast.specs.Asked.{asks_names, top_name, once, is_first as is_first_of};
+ghost use Rattle.elastic_ast.specs.AskedOfNames.{asks_names, top_name};
+ghost use Rattle.elastic_ast.specs.Asked.{once, is_first as is_first_of};
 ghost use Rattle.width_check.specs.Begun.{is_begun};
 ghost use Rattle.elastic_ast.specs.Demand.{first_broken};
 ghost use Rattle.width_check.specs.Table.{names_in, IsRefusal};

@@ -3,7 +3,7 @@
 ghost use Rattle.std.specs.Prelude.{◌≡◌, [], ◌∷◌, ◌++◌, map, IfErr, OnErr, OnOk};
 ghost use Rattle.elastic_ast.specs.Scope.{among};
 ghost use Rattle.elastic_ast.specs.Demand.{has_underscores as has_underscores_of, fixed_names, first_broken};
-ghost use Rattle.elastic_ast.specs.Asked.{asks_names};
+ghost use Rattle.elastic_ast.specs.AskedOfNames.{asks_names};
 ghost use Rattle.width_check.specs.Table.{names_in, name_rule, IsRefusal};
 
 use elastic_ast::Rule;

@@ -1,7 +1,7 @@
 use Rattle.std.proofs.Common.{◌≡◌, ◌<◌, ℕ, List, length, get_or, sym, ap, subst, ◌∙◌}
 use Rattle.elastic_ast.specs.declared.declarations.Decl.{Decl}
 use Rattle.elastic_ast.specs.Seen.{seen_decl}
-use Rattle.elastic_ast.specs.Asked.{top_names}
+use Rattle.elastic_ast.specs.AskedOfNames.{top_names}
 use Rattle.width_check.specs.Table.{names_in}
 use Rattle.width_check.specs.Scoped.{before_of, entries_seen, named, are_distinct}
 use Rattle.width_check.proofs.ScopeLaws.{step_take, names_of_table, table_step, distinct_step, next_broken, refused_next, has_step}
