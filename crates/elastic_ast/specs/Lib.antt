@@ -37,6 +37,7 @@ pub mod PacketBits
 pub mod Parts
 pub mod Taken
 pub mod TakenLocations
+pub mod ParserEnds
 pub mod Given
 pub mod Packets
 pub mod WorkedValues

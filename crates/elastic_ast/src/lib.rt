@@ -28,7 +28,7 @@ pub use flat::{
 pub use key_hash::{HASH_START, hash_bytes, hash_number};
 pub use meaning_law::{law_of_packets, law_of_statements, law_of_values};
 pub use packet_examples::{examples_of_answers, examples_of_registers};
-pub use packet_law::law_of_taken_locations;
+pub use packet_law::{law_of_parser_ends, law_of_taken_locations};
 pub use registers::Registers;
 pub use rule::Rule;
 pub use statements::{Amount, Expr, Lval, RegRef, Stmt};
