@@ -34,3 +34,14 @@ pub mod Packets
 pub mod WorkedValues
 pub mod WorkedProgram
 pub mod WorkedPackets
+pub mod PlainUnits
+pub mod SeenUnits
+pub mod Cuts
+pub mod Reach
+pub mod Costs
+pub mod UnitsOf
+pub mod Instances
+pub mod Order
+pub mod Work
+pub mod FlatNames
+pub mod WorkedUnits
