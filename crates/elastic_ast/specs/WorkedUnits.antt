@@ -250,3 +250,39 @@ abbrev pub with_table : Bool → Option ℕ → List PlainDecl
 with_table ternary size =
     framed [] (field (codes "a") 8 None ∷ []) [] [] (PlainLocal.OfAction put_action ∷ PlainLocal.OfTable (two_entries ternary size) ∷ [])
     (PlainStmt.Apply (codes "t") ∷ [])
+
+-- `if (hdr.h.a == 0) { hdr.h.a = 1; hdr.h.b = 2; }`
+abbrev pub branch : List PlainDecl
+branch = small (when (is a 0) (assign a 1 ∷ assign b 2 ∷ []) ∷ [])
+
+-- `if (hdr.h.a == 0) { if (hdr.h.b == 1) { } hdr.h.a = 3; if (hdr.h.b == 2) { hdr.h.a = 4; hdr.h.b = 5; } }`
+abbrev pub branch_in_branch : List PlainDecl
+branch_in_branch =
+    small
+    (when (is a 0) (when (is b 1) [] ∷ assign a 3 ∷ when (is b 2) (assign a 4 ∷ assign b 5 ∷ []) ∷ []) ∷ [])
+
+-- `if (hdr.h.a == 0) { hdr.h.a = 1; } else { if (hdr.h.b == 1) { hdr.h.b = 2; } }`
+abbrev pub two_branches : List PlainDecl
+two_branches = small (when_else (is a 0) (assign a 1 ∷ []) (when (is b 1) (assign b 2 ∷ []) ∷ []) ∷ [])
+
+-- `if (hdr.h.a == 0) { for (i < s) { meta.e[i] = 1; } }`
+abbrev pub loop_in_branch : List PlainDecl
+loop_in_branch = small (when (is a 0) (loop (assign e 1 ∷ []) ∷ []) ∷ [])
+
+-- `for (i < s) { } for (i < s) { if (meta.e[i] == 0) { meta.e[i] = 1; hdr.h.a = 2; } }`
+abbrev pub branch_in_loop : List PlainDecl
+branch_in_loop = small (loop [] ∷ loop (when (is e 0) (assign e 1 ∷ assign a 2 ∷ []) ∷ []) ∷ [])
+
+-- `@stage(3) { @stage(1) { hdr.h.a = 1; } hdr.h.b = 2; { hdr.h.a = 3; } } hdr.h.b = 4;`
+abbrev pub blocks : List PlainDecl
+blocks =
+    small
+    (staged 3 (staged 1 (assign a 1 ∷ []) ∷ assign b 2 ∷ PlainStmt.Block None (stmts (assign a 3 ∷ [])) ∷ []) ∷ assign b 4 ∷ [])
+
+-- `for (i < s) { meta.e[i] = 1; hdr.h.a = meta.e[i]; }`
+abbrev pub element_in_loop : List PlainDecl
+element_in_loop = small (loop (assign e 1 ∷ PlainStmt.Assign a (get e) ∷ []) ∷ [])
+
+-- two assignments
+abbrev pub then : PlainStmt → PlainStmt → List PlainUnit
+then first second = units_of (small (first ∷ second ∷ []))

@@ -29,6 +29,10 @@ pub use meaning_law::{law_of_packets, law_of_statements, law_of_values};
 pub use registers::Registers;
 pub use rule::Rule;
 pub use statements::{Amount, Expr, Lval, RegRef, Stmt};
-pub use unit_examples::units_of_a_branch;
+pub use unit_examples::{
+    bits_of_a_table, flat_names, instances_of_a_sketch, orders_of_two_units,
+    registers_of_two_units, stages_of_blocks, units_of_a_branch, units_of_a_sketch,
+    units_of_conditions_over_more, units_of_conditions_over_one_unit, units_of_loops,
+};
 pub use vector::Vector;
 pub use vector_law::{law_of_places, law_of_writes};
