@@ -20,3 +20,4 @@ pub mod KeptPuts
 pub mod LookUpLaws
 pub mod HashLaws
 pub mod FindLaws
+pub mod UnitLists

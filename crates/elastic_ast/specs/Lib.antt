@@ -41,6 +41,7 @@ pub mod Reach
 pub mod Costs
 pub mod UnitsOf
 pub mod Instances
+pub mod CutInstances
 pub mod Order
 pub mod Work
 pub mod FlatNames
