@@ -21,3 +21,4 @@ pub mod LookUpLaws
 pub mod HashLaws
 pub mod FindLaws
 pub mod UnitLists
+pub mod Depends

@@ -46,3 +46,4 @@ pub mod Order
 pub mod Work
 pub mod FlatNames
 pub mod WorkedUnits
+pub mod Footprints
