@@ -22,3 +22,6 @@ pub mod HashLaws
 pub mod FindLaws
 pub mod UnitLists
 pub mod Depends
+pub mod Footprints
+pub mod EachUnit
+pub mod Exchange

@@ -47,3 +47,4 @@ pub mod Work
 pub mod FlatNames
 pub mod WorkedUnits
 pub mod Footprints
+pub mod Exchange

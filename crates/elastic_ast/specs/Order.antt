@@ -2,7 +2,7 @@
 use Rattle.std.specs.Prelude.{ℕ, ◌==◌, Bool, true, false, not, ◌&&◌, ◌||◌, List, [], ◌∷◌}
 use Rattle.elastic_ast.specs.declared.flat.Location.{Location}
 use Rattle.elastic_ast.specs.declared.flat.Location.TheVariants as location
-use Rattle.elastic_ast.specs.Reach.{same_location}
+use Rattle.elastic_ast.specs.Scope.{same}
 use Rattle.elastic_ast.specs.PlainUnits.{PlainUnit}
 use Rattle.elastic_ast.specs.Instances.{Instance}
 
@@ -17,9 +17,19 @@ is_own (location.Pred number own) = own
 is_own (location.Reg name own) = own
 is_own _ = false
 
--- a location at an index, and one at another: own locations are the same only at one index
+-- the same field, validity bit, predicate, register or array
+abbrev pub one_thing : Location → Location → Bool
+one_thing (location.Header header field) (location.Header header' field') = same header header' && same field field'
+one_thing (location.Valid header) (location.Valid header') = same header header'
+one_thing (location.Meta name own) (location.Meta name' own') = same name name'
+one_thing (location.Std name) (location.Std name') = same name name'
+one_thing (location.Pred number own) (location.Pred number' own') = number == number'
+one_thing (location.Reg name own) (location.Reg name' own') = same name name'
+one_thing _ _ = false
+
+-- a location at an index, and one at another: two own locations of one thing are apart where the indices differ
 abbrev pub coincide : Location → ℕ → Location → ℕ → Bool
-coincide one index other index' = same_location one other && (not (is_own one) || index == index')
+coincide one index other index' = one_thing one other && (not (is_own one && is_own other) || index == index')
 
 abbrev pub touches : Location → ℕ → List Location → ℕ → Bool
 touches one index [] index' = false
