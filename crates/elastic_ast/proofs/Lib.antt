@@ -25,3 +25,5 @@ pub mod Depends
 pub mod Footprints
 pub mod EachUnit
 pub mod Exchange
+pub mod SamePieces
+pub mod KeptMeaning

@@ -48,3 +48,4 @@ pub mod FlatNames
 pub mod WorkedUnits
 pub mod Footprints
 pub mod Exchange
+pub mod CutMeaning
