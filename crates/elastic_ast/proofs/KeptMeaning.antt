@@ -81,12 +81,12 @@ NoLoop Nil = Unit {0}
 NoLoop (One u r) = NoLoop r
 NoLoop (Loop i y b r) = ⊥
 
-NoLoop-append : (a b : Cuts) → NoLoop a → NoLoop b → NoLoop (append a b)
+pub NoLoop-append : (a b : Cuts) → NoLoop a → NoLoop b → NoLoop (append a b)
 NoLoop-append Nil b ha hb = hb
 NoLoop-append (One u r) b ha hb = NoLoop-append r b ha hb
 NoLoop-append (Loop i y c r) b ha hb = absurd ha
 
-NoLoop-with_lit : (l : Lit) (a : Cuts) → NoLoop a → NoLoop (with_lit l a)
+pub NoLoop-with_lit : (l : Lit) (a : Cuts) → NoLoop a → NoLoop (with_lit l a)
 NoLoop-with_lit l Nil h = tt
 NoLoop-with_lit l (One u r) h = NoLoop-with_lit l r h
 NoLoop-with_lit l (Loop i y c r) h = absurd h

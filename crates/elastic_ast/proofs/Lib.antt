@@ -27,3 +27,4 @@ pub mod EachUnit
 pub mod Exchange
 pub mod SamePieces
 pub mod KeptMeaning
+pub mod InstanceRuns

@@ -35,6 +35,8 @@ pub use unit_examples::{
     registers_of_two_units, stages_of_blocks, units_of_a_branch, units_of_a_sketch,
     units_of_conditions_over_more, units_of_conditions_over_one_unit, units_of_loops,
 };
-pub use unit_laws::{free_neighbours_exchange, instances_have_footprints, lists_agree};
+pub use unit_laws::{
+    cut_keeps_the_meaning, free_neighbours_exchange, instances_have_footprints, lists_agree,
+};
 pub use vector::Vector;
 pub use vector_law::{law_of_places, law_of_writes};

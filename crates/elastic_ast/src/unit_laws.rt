@@ -2,6 +2,7 @@
 
 ghost use Rattle.elastic_ast.specs.CutInstances.{ListsAgree, ProgramListsAgree};
 ghost use Rattle.elastic_ast.specs.Footprints.{UnitsHaveFootprints, InstancesHaveFootprints};
+ghost use Rattle.elastic_ast.specs.CutMeaning.{PiecesKeepTheMeaning, InstancesKeepTheMeaning};
 ghost use Rattle.elastic_ast.specs.Exchange.{OrderIsUndisturbed, OrderIsFree, FreeExchange};
 
 /// The instances of the flat list are those of the pieces with their loops, in order.
@@ -22,4 +23,11 @@ pub fn free_neighbours_exchange()
     ensures exchange { FreeExchange }
     ensures free { OrderIsFree }
     ensures undisturbed { OrderIsUndisturbed }
+{}
+
+/// The instances of the units of a program, in order, do what its body does, predicates aside: at all sizes and in every memory,
+/// where no loop stands in a loop.
+pub fn cut_keeps_the_meaning()
+    ensures pieces { PiecesKeepTheMeaning }
+    ensures instances { InstancesKeepTheMeaning }
 {}
