@@ -2,9 +2,7 @@
 use Rattle.std.proofs.Common.{◌≡◌, ℕ, ◌==◌, ◌&&◌, Bool, true, false, List, [], ◌∷◌, ◌++◌, get_or, slice_set, bit_and, Option, Some, None, refl, sym, ap, ap₂, ◌∙◌, if◌then◌else◌}
 use Rattle.elx_bits.specs.Words as words
 use Rattle.elx_bits.specs.Hash.{hashed}
-use Rattle.elastic_ast.specs.declared.flat.Lit.{Lit}
 use Rattle.elastic_ast.specs.declared.flat.Location.{Location}
-use Rattle.elastic_ast.specs.declared.flat.Location.TheVariants as location
 use Rattle.elastic_ast.specs.declared.statements.Lval.{Lval}
 use Rattle.elastic_ast.specs.declared.statements.Lval.TheVariants as lval
 use Rattle.elastic_ast.specs.declared.statements.RegRef.{RegRef}
@@ -12,15 +10,15 @@ use Rattle.elastic_ast.specs.declared.declarations.Key.{Key}
 use Rattle.elastic_ast.specs.declared.declarations.Param.{Param}
 use Rattle.elastic_ast.specs.Tree.{Name, PlainDecl, PlainExpr, PlainStmt, PlainStmts, PlainKeyset, PlainEntry, PlainAction, PlainTable}
 use Rattle.elastic_ast.specs.Scope.{or_else, found}
-use Rattle.elastic_ast.specs.Places.{place, place_of_lval, valid_place}
+use Rattle.elastic_ast.specs.Places.{place_of_lval, valid_place}
 use Rattle.elastic_ast.specs.LookUps.{register_width, action_of, table_of}
 use Rattle.elastic_ast.specs.Operators.{operator_of, sort_of}
 use Rattle.elastic_ast.specs.Types.{Ty, Bits, Bare, of_width, outcome, left_giver, right_giver, width_of_type, type_of, type_at, lval_type}
-use Rattle.elastic_ast.specs.Memory.{Spot, At, Reg, Holds, Memory, Writes, nothing, written_or, over, and_then, put, store}
-use Rattle.elastic_ast.specs.Values.{Setting, names_of, bit, is_true, apply, turn, count_value, amount_value, value, holds}
+use Rattle.elastic_ast.specs.Memory.{Spot, At, Reg, Memory, Writes, written_or, over, and_then, store}
+use Rattle.elastic_ast.specs.Values.{Setting, names_of, is_true, apply, turn, count_value, amount_value, value, holds}
 use Rattle.elastic_ast.specs.Matches.{Run, in_set, in_sets, run_of, chosen}
 use Rattle.elastic_ast.specs.Written.{outside, inside, register_index, cells_at, assigned, plain_writes, body_writes, arguments, action_writes, run_writes, table_writes, leaf}
-use Rattle.elastic_ast.specs.Reach.{is_indexed, location_of, register_location, expr_reads, exprs_read, plain_reads, body_reads, action_reads, set_reads, sets_read, entries_read, fallback_reads, keys_read}
+use Rattle.elastic_ast.specs.Reach.{is_indexed, location_of, register_location, expr_reads, exprs_read, plain_reads, body_reads, action_reads, set_reads, sets_read, keys_read}
 use Rattle.elastic_ast.specs.Work.{index_at}
 use Rattle.elastic_ast.specs.Footprints.{spot_of, Agree}
 

@@ -1,5 +1,5 @@
 -- What holds of each unit of pieces holds of each unit and each instance of a program.
-use Rattle.std.proofs.Common.{◌≡◌, ℕ, zero, suc, ◌+◌, ◌<◌, List, [], ◌∷◌, ◌++◌, map, length, Option, Some, None, refl, sym, ap, subst, All, arith}
+use Rattle.std.proofs.Common.{ℕ, zero, suc, ◌+◌, List, [], ◌∷◌, ◌++◌, map, length, Option, Some, None, sym, subst, All, arith}
 use Rattle.std.proofs.lemmas.List.Elements.{All-cons}
 use Rattle.elastic_ast.specs.Tree.{PlainDecl}
 use Rattle.elastic_ast.specs.PlainUnits.{PlainUnit}
@@ -35,6 +35,7 @@ module _ (decls : List PlainDecl) where
     where
       w : Around
       w = record { number = k; index = i; size = s }
+
       go : (us : List Piece) → AllBy Q (map (unit_of decls (Some w)) us)
       go [] = tt
       go (u ∷ us) = (f (Some w) u, go us)
@@ -53,6 +54,7 @@ module _ (decls : List PlainDecl) where
     where
       w : Around
       w = record { number = k; index = i; size = s }
+
       go : (j : ℕ) (us : List Piece) (m : ℕ) → AllBy P (at_index (numbered m (map (unit_of decls (Some w)) us)) j)
       go j [] m = tt
       go j (u ∷ us) m = (g m j w u, go j us (m + 1))

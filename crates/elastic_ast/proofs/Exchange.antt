@@ -1,22 +1,20 @@
 -- What the order of two instances says of what they write.
-use Rattle.std.proofs.Common.{◌≡◌, ◌≢◌, ℕ, ◌==◌, ◌&&◌, ◌||◌, nat_eq, not, ◌⊎◌, ⊎_elim, inl, inr, Bool, true, false, List, [], ◌∷◌, Option, Some, None, option_map, refl, sym, ap, ap₂, ◌∙◌, subst, All}
+use Rattle.std.proofs.Common.{◌≡◌, ◌≢◌, ℕ, ◌==◌, ◌&&◌, ◌||◌, nat_eq, not, ◌⊎◌, ⊎_elim, inl, inr, Bool, true, false, List, [], ◌∷◌, Option, Some, None, option_map, refl, sym, ap, ap₂, ◌∙◌, All}
 use Rattle.std.specs.Option.{option_eq}
 use mathlib.Core.Path.{fun_ext}
 use Rattle.std.proofs.lemmas.Bool.{or_parts, or_cases, eqb-true, eq-eqb}
 use Rattle.std.proofs.lemmas.Slice.Eq.{bytes_eq-Decides}
 use Rattle.elastic_ast.specs.declared.flat.Location.{Location}
 use Rattle.elastic_ast.specs.declared.flat.Location.TheVariants as location
-use Rattle.elastic_ast.specs.Tree.{Name, PlainDecl}
+use Rattle.elastic_ast.specs.Tree.{PlainDecl}
 use Rattle.elastic_ast.specs.Scope.{same}
 use Rattle.elastic_ast.specs.Places.{place}
-use Rattle.elastic_ast.specs.Memory.{Spot, At, Reg, Holds, Memory, Writes, written_or, over}
-use Rattle.elastic_ast.specs.PlainUnits.{PlainUnit}
+use Rattle.elastic_ast.specs.Memory.{Spot, At, Reg, Memory, Writes, written_or, over}
 use Rattle.elastic_ast.specs.Instances.{Instance, instances}
-use Rattle.elastic_ast.specs.UnitsOf.{Around, unit_of, units_of}
-use Rattle.elastic_ast.specs.Cuts.{Piece}
-use Rattle.elastic_ast.specs.Order.{Relation, is_own, one_thing, coincide, touches, meet, relation, order, order_of}
-use Rattle.elastic_ast.specs.Work.{index_at, index_around, unit_writes, instance_writes, after}
-use Rattle.elastic_ast.specs.Footprints.{spot_of, same_spot, covers, Agree, HasFootprint, TablesFit, KeepsTo, InstancesHaveFootprints, UnitsHaveFootprints}
+use Rattle.elastic_ast.specs.UnitsOf.{units_of}
+use Rattle.elastic_ast.specs.Order.{Relation, is_own, one_thing, coincide, touches, meet, relation, order_of}
+use Rattle.elastic_ast.specs.Work.{index_at, index_around, after}
+use Rattle.elastic_ast.specs.Footprints.{spot_of, same_spot, covers, HasFootprint, TablesFit, KeepsTo, InstancesHaveFootprints, UnitsHaveFootprints}
 use Rattle.elastic_ast.specs.Exchange.{Undisturbed, AreFree, writes_of, OfEachTwo, OrderIsUndisturbed, OrderIsFree, FreeExchange}
 use Rattle.elastic_ast.proofs.PlaceLaws.{place_tells}
 use Rattle.elastic_ast.proofs.Footprints.{unit_footprint}

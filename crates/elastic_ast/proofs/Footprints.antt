@@ -1,5 +1,5 @@
 -- Instances keep to what their units may read and write.
-use Rattle.std.proofs.Common.{◌≡◌, ℕ, ◌==◌, ◌&&◌, ◌||◌, nat_eq, not, ◌⊎◌, ⊎_elim, inl, inr, Bool, true, false, List, [], ◌∷◌, ◌++◌, Option, Some, None, is_some, refl, sym, ap, ap₂, ◌∙◌, subst, if◌then◌else◌, filter, slice_set, get_or, All}
+use Rattle.std.proofs.Common.{◌≡◌, ℕ, ◌==◌, ◌&&◌, ◌||◌, nat_eq, not, ⊎_elim, Bool, true, false, List, [], ◌∷◌, ◌++◌, Option, Some, None, is_some, refl, sym, ap, ap₂, ◌∙◌, subst, if◌then◌else◌, filter, slice_set, get_or}
 use Rattle.std.specs.Option.{option_eq}
 use Rattle.std.specs.Prelude.{IfSome}
 use Rattle.std.proofs.lemmas.Bool.{or_left, or_right, or_parts, or_cases, eqb-true, eq-eqb}
@@ -15,17 +15,17 @@ use Rattle.elastic_ast.specs.Scope.{same, among, or_else, found}
 use Rattle.elastic_ast.specs.Places.{place_of_lval, valid_place}
 use Rattle.elastic_ast.specs.LookUps.{register_width, action_of, table_of}
 use Rattle.elastic_ast.specs.Types.{Bits, of_width, lval_type, width_of_type}
-use Rattle.elastic_ast.specs.Memory.{Spot, At, Reg, Holds, Memory, Writes, nothing, over, and_then, put, store}
+use Rattle.elastic_ast.specs.Memory.{Spot, At, Reg, Memory, Writes, over, put, store}
 use Rattle.elastic_ast.specs.Values.{Setting, bit, value, holds}
 use Rattle.elastic_ast.specs.Matches.{Run, in_sets, run_of, chosen}
 use Rattle.elastic_ast.specs.Written.{outside, inside, register_index, cells_at, assigned, plain_writes, body_writes, arguments, action_writes, run_writes, table_writes, leaf}
-use Rattle.elastic_ast.specs.PlainUnits.{PlainWork, Plain, Call, Apply, Pred, PlainUnit}
-use Rattle.elastic_ast.specs.Cuts.{Piece, Cuts, Nil, One, Loop}
-use Rattle.elastic_ast.specs.Reach.{location_of, register_location, expr_reads, exprs_read, plain_reads, plain_assigns, body_assigns, action_reads, action_assigns, sets_read, entries_read, fallback_reads, keys_read, actions_read, actions_assign, table_reads, table_assigns, leaf_reads, leaf_assigns, work_reads, work_assigns, lits_read, same_flag, same_location, once, piece_reads, piece_writes}
-use Rattle.elastic_ast.specs.UnitsOf.{Around, unit_of, inner_pieces, flat, units_of, cuts_of}
-use Rattle.elastic_ast.specs.Work.{index_at, pred_place, lit_holds, lits_hold, conds_hold, work_writes, writes_if, does, unit_writes}
+use Rattle.elastic_ast.specs.PlainUnits.{PlainWork, Plain, Call, Apply, Pred}
+use Rattle.elastic_ast.specs.Cuts.{Piece}
+use Rattle.elastic_ast.specs.Reach.{location_of, register_location, expr_reads, exprs_read, plain_assigns, body_assigns, action_reads, action_assigns, sets_read, entries_read, fallback_reads, keys_read, actions_read, actions_assign, table_reads, table_assigns, leaf_reads, leaf_assigns, work_reads, work_assigns, lits_read, same_flag, same_location, once, piece_reads, piece_writes}
+use Rattle.elastic_ast.specs.UnitsOf.{Around, unit_of}
+use Rattle.elastic_ast.specs.Work.{pred_place, lits_hold, conds_hold, work_writes, writes_if, does}
 use Rattle.elastic_ast.specs.Footprints.{spot_of, same_spot, covers, Agree, HasFootprint, RunFits, EntriesFit, TableFits, TablesFit, KeepsTo}
-use Rattle.elastic_ast.proofs.Depends.{Within, within_left, within_right, within_both, lval_spot, register_spot, holds_depends, RunWithin, EntriesWithin, TableWithin, LeafWithin, leaf_depends}
+use Rattle.elastic_ast.proofs.Depends.{Within, within_left, within_right, lval_spot, register_spot, holds_depends, RunWithin, EntriesWithin, TableWithin, LeafWithin, leaf_depends}
 
 -- what isn't covered
 none_left : (i : Option ℕ) (l : Spot) (xs ys : List Location) → covers (xs ++ ys) i l ≡ false → covers xs i l ≡ false
@@ -156,8 +156,7 @@ within_run test decls i names name h fit =
 within_entries : (test : Spot → Bool) (decls : List PlainDecl) (i : Option ℕ) (names : List Name) (es : List PlainEntry) → Within test i (actions_read decls names) → EntriesFit decls names es → Within test i (entries_read es) → EntriesWithin test decls i es
 within_entries test decls i names [] h fit g = tt
 within_entries test decls i names (e ∷ es) h fit g =
-    let front = within_left test i (sets_read e.keys ++ exprs_read e.args) (entries_read es) g in
-    (
+    let front = within_left test i (sets_read e.keys ++ exprs_read e.args) (entries_read es) g in (
       within_left test i (sets_read e.keys) (exprs_read e.args) front,
       (within_right test i (sets_read e.keys) (exprs_read e.args) front, within_run test decls i names e.action h fit.0),
       within_entries test decls i names es h fit.1 (within_right test i (sets_read e.keys ++ exprs_read e.args) (entries_read es) g),
@@ -176,8 +175,7 @@ within_table test decls i (Some table) fit h =
     let actions = actions_read decls table.actions in
     let tail = within_right test i keys ((entries ++ other) ++ actions) h in
     let called = within_right test i (entries ++ other) actions tail in
-    let listed = within_left test i (entries ++ other) actions tail in
-    (
+    let listed = within_left test i (entries ++ other) actions tail in (
       within_left test i keys ((entries ++ other) ++ actions) h,
       within_entries test decls i table.actions table.entries called fit.entries (within_left test i entries other listed),
       within_fallback test decls i table.actions table.fallback called fit.fallback (within_right test i entries other listed),
@@ -270,8 +268,10 @@ covers_filter i l x (y ∷ ys) = go (same_location x y) refl (covers_filter i l 
   where
     at : Location → Bool
     at z = same_spot (spot_of z i) l
+
     others : List Location
     others = filter (λ z. not (same_location x z)) ys
+
     go : (b : Bool) → same_location x y ≡ b → (at x || covers others i l) ≡ (at x || covers ys i l) → (at x || covers (if not (same_location x y) then y ∷ others else others) i l) ≡ (at x || (at y || covers ys i l))
     go true e ih =
         ap (λ b. at x || covers (if not b then y ∷ others else others) i l) e
@@ -301,11 +301,10 @@ within_more test other f i (x ∷ xs) h = (f (spot_of x i) h.0, within_more test
 
 covers_self : (i : Option ℕ) (xs : List Location) → Within (covers xs i) i xs
 covers_self i [] = tt
-covers_self i (x ∷ xs) =
-    (
-      or_left (same_spot (spot_of x i) (spot_of x i)) (covers xs i (spot_of x i)) (spot_self (spot_of x i)),
-      within_more (covers xs i) (covers (x ∷ xs) i) (λ l e. or_right (same_spot (spot_of x i) l) (covers xs i l) e) i xs (covers_self i xs),
-    )
+covers_self i (x ∷ xs) = (
+  or_left (same_spot (spot_of x i) (spot_of x i)) (covers xs i (spot_of x i)) (spot_self (spot_of x i)),
+  within_more (covers xs i) (covers (x ∷ xs) i) (λ l e. or_right (same_spot (spot_of x i) l) (covers xs i l) e) i xs (covers_self i xs),
+)
 
 pub piece_footprint : (decls : List PlainDecl) → TablesFit decls → (sizes : List ℕ) (ls : List Lit) (cs : List PlainExpr) (work : PlainWork) (i : Option ℕ) → HasFootprint (covers (piece_reads decls ls cs work) i) (covers (piece_writes decls (is_some i) work) i) (does ls cs work decls sizes i)
 piece_footprint decls fit sizes ls cs work i =

@@ -1,6 +1,6 @@
 -- The run of the listed instances is the run of the pieces with their loops.
-use Rattle.std.proofs.Common.{◌≡◌, ℕ, zero, suc, ◌+◌, ◌≤◌, not, Bool, true, false, List, [], ◌∷◌, ◌++◌, map, length, get_or, Option, Some, None, refl, sym, ap, ap₂, ◌∙◌, subst, arith, if◌then◌else◌}
-use Rattle.std.specs.List.{prefix_len, position_or_len}
+use Rattle.std.proofs.Common.{◌≡◌, ℕ, zero, suc, ◌+◌, ◌≤◌, not, Bool, true, false, List, [], ◌∷◌, ◌++◌, map, length, get_or, Option, Some, None, refl, sym, ap, ◌∙◌, subst, arith, if◌then◌else◌}
+use Rattle.std.specs.List.{position_or_len}
 use Rattle.elastic_ast.specs.declared.flat.Lit.{Lit}
 use Rattle.elastic_ast.specs.Tree.{Name, PlainDecl, PlainExpr, PlainStmt, PlainStmts}
 use Rattle.elastic_ast.specs.Scope.{same}
@@ -12,13 +12,13 @@ use Rattle.elastic_ast.specs.Meaning.{turns, means}
 use Rattle.elastic_ast.specs.PlainUnits.{PlainUnit}
 use Rattle.elastic_ast.specs.Cuts.{Piece, Cuts, Nil, One, Loop, append, tests, literal, with_lit, single, branched, guarded, cut, cut_all}
 use Rattle.elastic_ast.specs.Costs.{symbol_number}
-use Rattle.elastic_ast.specs.UnitsOf.{Around, unit_of, inner_pieces, units_of, cuts_of}
-use Rattle.elastic_ast.specs.Instances.{Instance, nth_size, at_index, each_turn, instances}
+use Rattle.elastic_ast.specs.UnitsOf.{Around, unit_of, inner_pieces, cuts_of}
+use Rattle.elastic_ast.specs.Instances.{Instance, nth_size, at_index, each_turn}
 use Rattle.elastic_ast.specs.CutInstances.{numbered, cut_instances}
 use Rattle.elastic_ast.specs.Work.{does, after, run}
 use Rattle.elastic_ast.specs.CutMeaning.{Same, Unnested, UnnestedAll, run_cuts, InstancesKeepTheMeaning}
 use Rattle.elastic_ast.proofs.UnitLists.{program_lists_agree}
-use Rattle.elastic_ast.proofs.KeptMeaning.{NoLoop, NoLoop-append, NoLoop-with_lit, no_loop_all, all_same}
+use Rattle.elastic_ast.proofs.KeptMeaning.{NoLoop, NoLoop-with_lit, no_loop_all, all_same}
 
 -- no loop in a loop
 abbrev NoNest : Cuts → Type 0
@@ -109,8 +109,10 @@ module _ (decls : List PlainDecl) (sizes : List ℕ) where
     where
       w : Around
       w = record { number = k; index = i; size = y }
+
       us : List (ℕ × PlainUnit)
       us = numbered n (map (unit_of decls (Some w)) (inner_pieces b))
+
       turn : ℕ → Memory → Memory
       turn j t = run_cuts b decls sizes (Some j) t
 

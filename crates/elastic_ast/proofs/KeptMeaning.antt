@@ -1,6 +1,6 @@
 -- The pieces of statements keep their meaning: predicates tell the branches apart.
-use Rattle.std.proofs.Common.{◌≡◌, ◌≢◌, ℕ, zero, suc, ◌+◌, ◌<◌, ◌≤◌, ◌==◌, ◌&&◌, not, nat_eq, Bool, true, false, List, [], ◌∷◌, ◌++◌, Option, Some, None, is_some, refl, sym, ap, ap₂, ◌∙◌, subst, arith, if◌then◌else◌}
-use Rattle.std.proofs.lemmas.Bool.{true≢false, false_from_ne_true, and_right, eqb-true, eq-eqb, ne_eqb}
+use Rattle.std.proofs.Common.{◌≡◌, ◌≢◌, ℕ, zero, suc, ◌+◌, ◌<◌, ◌≤◌, ◌==◌, ◌&&◌, nat_eq, Bool, true, false, List, [], ◌∷◌, Option, Some, None, is_some, refl, sym, ap, ◌∙◌, subst, arith, if◌then◌else◌}
+use Rattle.std.proofs.lemmas.Bool.{true≢false, false_from_ne_true, and_right, eqb-true, eq-eqb}
 use Rattle.std.proofs.lemmas.Slice.Eq.{bytes_eq-Decides}
 use Rattle.elx_bits.specs.Words.{Word}
 use Rattle.elastic_ast.specs.declared.flat.Lit.{Lit}
@@ -10,12 +10,12 @@ use Rattle.elastic_ast.specs.Scope.{same}
 use Rattle.elastic_ast.specs.Scope as scope
 use Rattle.elastic_ast.specs.Sums.{symbols_of, size_of}
 use Rattle.elastic_ast.specs.Places.{index_code, flag_code, place}
-use Rattle.elastic_ast.specs.Memory.{Spot, At, Reg, Holds, Memory, Writes, nothing, written_or, over, put}
+use Rattle.elastic_ast.specs.Memory.{Spot, At, Reg, Memory, Writes, written_or, over, put}
 use Rattle.elastic_ast.specs.Values.{bit, holds}
 use Rattle.elastic_ast.specs.Written.{outside, leaf}
 use Rattle.elastic_ast.specs.Meaning.{turns, mean, means}
 use Rattle.elastic_ast.specs.PlainUnits.{PlainWork, Plain, Call, Apply, Pred}
-use Rattle.elastic_ast.specs.Cuts.{Piece, Cuts, Nil, One, Loop, append, tests, literal, lit_put, with_lit, single, untested, alone, branched, guarded, cut, cut_all}
+use Rattle.elastic_ast.specs.Cuts.{Piece, Cuts, Nil, One, Loop, append, tests, literal, lit_put, with_lit, single, branched, guarded, cut, cut_all}
 use Rattle.elastic_ast.specs.Work.{index_at, pred_place, lit_holds, lits_hold, conds_hold, work_writes, writes_if, does}
 use Rattle.elastic_ast.specs.CutMeaning.{is_predicate, Same, Unnested, UnnestedAll, run_cuts, PiecesKeepTheMeaning}
 use Rattle.elastic_ast.proofs.PlaceLaws.{place_tells}
@@ -301,8 +301,10 @@ module _ (decls : List PlainDecl) (sizes : List ℕ) where
     where
       same_cond : holds (outside decls sizes i) s c ≡ holds (outside decls sizes i) t c
       same_cond = holds_same c decls sizes i s t a
+
       result : Bool → Memory
       result v = over (writes_if (lits_hold u.lits i s && (v && conds_hold u.conds decls sizes i s)) (work_writes u.work decls sizes i s)) s
+
       go : (v : Bool) → holds (outside decls sizes i) s c ≡ v → Same (result (holds (outside decls sizes i) s c)) (if holds (outside decls sizes i) t c then done else t)
       go true e = subst (λ v. Same (result v) (if holds (outside decls sizes i) t c then done else t)) (sym e) (subst (λ v. Same (result true) (if v then done else t)) (sym e ∙ same_cond) first)
       go false e =
@@ -317,24 +319,34 @@ module _ (decls : List PlainDecl) (sizes : List ℕ) where
     where
       on : Lit
       on = literal k (is_some i) true
+
       off : Lit
       off = literal k (is_some i) false
+
       here : List ℕ
       here = pred_place k (is_some i) i
+
       word : Bool → Word
       word v = (1, bit v)
+
       tested : Memory
       tested = over (put here (word (holds (outside decls sizes i) s c))) s
+
       tested_same : Same tested s
       tested_same = pred_write k (is_some i) i (word (holds (outside decls sizes i) s c)) s
+
       tested_pred : (v : Bool) → holds (outside decls sizes i) s c ≡ v → (tested (At here)).1 ≡ bit v
       tested_pred v e = ap (λ b. (written_or (if b then Some (word (holds (outside decls sizes i) s c)) else None) (s (At here))).1) ((bytes_eq-Decides here here).1 refl) ∙ ap bit e
+
       mid : Memory
       mid = run_cuts (with_lit on a) decls sizes i tested
+
       kept : Keeps (suc k) tested mid
       kept = run_keeps (with_lit on a) (suc k) i tested (From-with_lit (suc k) on a fa)
+
       same_cond : holds (outside decls sizes i) s c ≡ holds (outside decls sizes i) t c
       same_cond = holds_same c decls sizes i s t alike
+
       go : (v : Bool) → holds (outside decls sizes i) s c ≡ v → Same (run_cuts (with_lit off b) decls sizes i (run_cuts (with_lit on a) decls sizes i tested)) (if holds (outside decls sizes i) t c then f t else g t)
       go true e =
           let is_on : lit_holds on i tested ≡ true = ap (λ v. v == 1) (tested_pred true e) in

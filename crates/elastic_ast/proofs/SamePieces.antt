@@ -1,32 +1,21 @@
 -- The pieces of statements, in order, do what the statements do.
-use Rattle.std.proofs.Common.{◌≡◌, ◌≢◌, ℕ, zero, suc, ◌+◌, ◌<◌, ◌≤◌, ◌==◌, ◌&&◌, not, nat_eq, Bool, true, false, List, [], ◌∷◌, ◌++◌, Option, Some, None, is_some, refl, sym, ap, ap₂, ◌∙◌, subst, arith, if◌then◌else◌}
-use Rattle.std.proofs.lemmas.Bool.{true≢false, false_from_ne_true, and_right, eqb-true, eq-eqb}
-use Rattle.std.proofs.lemmas.Slice.Eq.{bytes_eq-Decides}
-use Rattle.elx_bits.specs.Words.{Word}
-use Rattle.elastic_ast.specs.declared.flat.Lit.{Lit}
-use Rattle.elastic_ast.specs.declared.flat.Location.{Location}
+use Rattle.std.proofs.Common.{◌≡◌, ℕ, not, Bool, true, false, List, [], ◌∷◌, ◌++◌, Option, Some, None, refl, ap, ap₂, ◌∙◌}
 use Rattle.elastic_ast.specs.declared.flat.Location.TheVariants as location
 use Rattle.elastic_ast.specs.declared.statements.Lval.{Lval}
 use Rattle.elastic_ast.specs.declared.statements.Lval.TheVariants as lval
 use Rattle.elastic_ast.specs.declared.declarations.Key.{Key}
-use Rattle.elastic_ast.specs.Tree.{Name, PlainDecl, PlainExpr, PlainStmt, PlainStmts, PlainKeyset, PlainEntry, PlainAction, PlainTable}
-use Rattle.elastic_ast.specs.Scope.{same, or_else, found}
-use Rattle.elastic_ast.specs.Sums.{symbols_of, size_of}
-use Rattle.elastic_ast.specs.Places.{place, place_of_lval}
+use Rattle.elastic_ast.specs.Tree.{PlainDecl, PlainExpr, PlainStmt, PlainStmts, PlainKeyset, PlainEntry, PlainAction, PlainTable}
+use Rattle.elastic_ast.specs.Scope.{or_else}
+use Rattle.elastic_ast.specs.Places.{place}
 use Rattle.elastic_ast.specs.LookUps.{action_of, table_of}
-use Rattle.elastic_ast.specs.Memory.{Spot, At, Reg, Holds, Memory, Writes, nothing, written_or, over, and_then, put}
-use Rattle.elastic_ast.specs.Values.{Setting, bit, holds}
+use Rattle.elastic_ast.specs.Memory.{Spot, At, Memory, Writes, written_or, over}
+use Rattle.elastic_ast.specs.Values.{Setting, holds}
 use Rattle.elastic_ast.specs.Matches.{Run, chosen}
 use Rattle.elastic_ast.specs.Written.{outside, inside, assigned, plain_writes, body_writes, arguments, action_writes, run_writes, table_writes, leaf}
-use Rattle.elastic_ast.specs.Meaning.{turns, mean, means}
-use Rattle.elastic_ast.specs.PlainUnits.{PlainWork, Plain, Call, Apply, Pred}
-use Rattle.elastic_ast.specs.Cuts.{Piece, Cuts, Nil, One, Loop, append, tests, literal, lit_put, with_lit, single, untested, alone, branched, guarded, cut, cut_all}
 use Rattle.elastic_ast.specs.Reach.{location_of, register_location, expr_reads, exprs_read, plain_reads, body_reads, action_reads, set_reads, sets_read, keys_read}
-use Rattle.elastic_ast.specs.Work.{index_at, pred_place, lit_holds, lits_hold, conds_hold, work_writes, writes_if, does}
 use Rattle.elastic_ast.specs.Footprints.{spot_of, Agree}
-use Rattle.elastic_ast.specs.CutMeaning.{is_predicate, Same, Unnested, UnnestedAll, run_cuts, PiecesKeepTheMeaning}
-use Rattle.elastic_ast.proofs.PlaceLaws.{place_tells}
-use Rattle.elastic_ast.proofs.Depends.{Within, within_left, within_right, within_both, holds_depends, RunWithin, EntriesWithin, TableWithin, LeafWithin, leaf_depends}
+use Rattle.elastic_ast.specs.CutMeaning.{is_predicate, Same}
+use Rattle.elastic_ast.proofs.Depends.{Within, within_both, holds_depends, RunWithin, EntriesWithin, TableWithin, LeafWithin, leaf_depends}
 
 pub same_refl : (s : Memory) → Same s s
 same_refl s = record { elsewhere = λ l h. refl }

@@ -6,7 +6,7 @@ use Rattle.elastic_ast.specs.PlainUnits.{PlainUnit}
 use Rattle.elastic_ast.specs.Cuts.{Piece, Cuts, Nil, One, Loop}
 use Rattle.elastic_ast.specs.Costs.{symbol_number}
 use Rattle.elastic_ast.specs.UnitsOf.{Around, unit_of, inner_pieces, flat, cuts_of}
-use Rattle.elastic_ast.specs.Instances.{Instance, Group, same_number, begun, with_unit, groups_from, groups, at_index, each_turn, group_instances, all_instances}
+use Rattle.elastic_ast.specs.Instances.{Group, same_number, begun, with_unit, groups_from, groups, at_index, each_turn, all_instances}
 use Rattle.elastic_ast.specs.CutInstances.{numbered, cut_instances, ListsAgree, ProgramListsAgree}
 
 abbrev looping : List PlainDecl → Around → Piece → PlainUnit
@@ -44,6 +44,7 @@ module _ (decls : List PlainDecl) where
     where
       w : Around
       w = record { number = k; index = i; size = s }
+
       go : (us : List Piece) → groups_from g n (flat decls r (k + 1)) ≡ g ∷ groups n (flat decls r (k + 1)) → groups_from g n (map (unit_of decls (Some w)) us ++ flat decls r (k + 1)) ≡ g ∷ groups n (map (unit_of decls (Some w)) us ++ flat decls r (k + 1))
       go [] ih = ih
       go (u ∷ us) ih =
@@ -71,6 +72,7 @@ lists_agree decls (Loop i s b r) n k z = go (inner_pieces b) (λ m. lists_agree 
   where
     w : Around
     w = record { number = k; index = i; size = s }
+
     go : (us : List Piece) → ((m : ℕ) → all_instances z (groups m (flat decls r (k + 1))) ≡ cut_instances decls r m (k + 1) z) → all_instances z (groups n (map (unit_of decls (Some w)) us ++ flat decls r (k + 1))) ≡ each_turn (z (symbol_number decls s)) (at_index (numbered n (map (unit_of decls (Some w)) us))) ++ cut_instances decls r (n + length us) (k + 1) z
     go [] ih = let e : n ≡ n + 0 = omega arith in ih n ∙ ap (λ m. cut_instances decls r m (k + 1) z) e ∙ ap (λ l. l ++ cut_instances decls r (n + 0) (k + 1) z) (sym (no_turns (z (symbol_number decls s))))
     go (u ∷ us) ih =

@@ -1,6 +1,6 @@
 -- What a unit of work takes of a target, this project's own: operators, stateless units, cells of its register, and the bits
 -- of its table.
-use Rattle.std.specs.Prelude.{ℕ, suc, ◌+◌, ◌-◌, ◌*◌, max, Bool, true, false, ◌||◌, List, [], ◌∷◌, length, sum_by, Option, Some, None, option_map, unwrap_or, if◌then◌else◌}
+use Rattle.std.specs.Prelude.{ℕ, ◌+◌, ◌-◌, ◌*◌, max, Bool, false, ◌||◌, List, [], ◌∷◌, length, sum_by, Option, Some, None, option_map, unwrap_or, if◌then◌else◌}
 use Rattle.std.specs.List.{position_or_len}
 use Rattle.elastic_ast.specs.declared.statements.Amount.{Amount}
 use Rattle.elastic_ast.specs.declared.statements.Amount.TheVariants as amount

@@ -1,5 +1,5 @@
 -- The instances of a control's pieces with their loops, in the order of the sequential run; this project's own.
-use Rattle.std.specs.Prelude.{◌≡◌, ℕ, ◌+◌, List, [], ◌∷◌, ◌++◌, map, length, Option, Some, None}
+use Rattle.std.specs.Prelude.{◌≡◌, ℕ, ◌+◌, List, [], ◌∷◌, ◌++◌, map, length, Some, None}
 use Rattle.elastic_ast.specs.Tree.{PlainDecl}
 use Rattle.elastic_ast.specs.PlainUnits.{PlainUnit}
 use Rattle.elastic_ast.specs.Cuts.{Cuts, Nil, One, Loop}

@@ -3,7 +3,7 @@ use Rattle.std.specs.Prelude.{◌≡◌, ◌≤◌, ℕ, ◌==◌, Bool, true, f
 use Rattle.elastic_ast.specs.Tree.{PlainDecl, PlainStmt, PlainStmts}
 use Rattle.elastic_ast.specs.Sums.{symbols_of, size_of}
 use Rattle.elastic_ast.specs.Parts.{body_of}
-use Rattle.elastic_ast.specs.Memory.{Spot, At, Reg, Holds, Memory, over}
+use Rattle.elastic_ast.specs.Memory.{Spot, At, Reg, Memory, over}
 use Rattle.elastic_ast.specs.Meaning.{turns, means}
 use Rattle.elastic_ast.specs.Cuts.{Cuts, Nil, One, Loop, cut_all}
 use Rattle.elastic_ast.specs.UnitsOf.{units_of}

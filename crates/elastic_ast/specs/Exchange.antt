@@ -1,5 +1,5 @@
 -- When two instances may work in either order; this project's own.
-use Rattle.std.specs.Prelude.{◌≡◌, ◌≢◌, ℕ, ◌⊎◌, All, List, Option, Some, None}
+use Rattle.std.specs.Prelude.{◌≡◌, ◌≢◌, ℕ, ◌⊎◌, All, List, None}
 use Rattle.elastic_ast.specs.Tree.{PlainDecl}
 use Rattle.elastic_ast.specs.Memory.{Spot, Memory, Writes, over}
 use Rattle.elastic_ast.specs.UnitsOf.{units_of}

@@ -1,5 +1,5 @@
 -- What it means that an instance keeps to what its unit may read and write; this project's own.
-use Rattle.std.specs.Prelude.{◌≡◌, ℕ, nat_eq, Bool, true, false, ◌&&◌, ◌||◌, ◌⊎◌, ⊤, All, IfSome, List, [], ◌∷◌, Option, Some, None}
+use Rattle.std.specs.Prelude.{◌≡◌, ℕ, nat_eq, Bool, true, false, ◌&&◌, ◌||◌, ◌⊎◌, ⊤, All, IfSome, List, [], ◌∷◌, Option, None}
 use Rattle.std.specs.Option.{option_eq}
 use Rattle.elastic_ast.specs.declared.flat.Location.{Location}
 use Rattle.elastic_ast.specs.declared.flat.Location.TheVariants as location
@@ -7,11 +7,11 @@ use Rattle.elastic_ast.specs.Tree.{Name, PlainDecl, PlainEntry, PlainTable}
 use Rattle.elastic_ast.specs.Scope.{same, among}
 use Rattle.elastic_ast.specs.Places.{place, valid_place}
 use Rattle.elastic_ast.specs.LookUps.{action_of, table_of}
-use Rattle.elastic_ast.specs.Memory.{Spot, At, Reg, Holds, Memory, Writes}
+use Rattle.elastic_ast.specs.Memory.{Spot, At, Reg, Memory, Writes}
 use Rattle.elastic_ast.specs.PlainUnits.{PlainUnit}
 use Rattle.elastic_ast.specs.UnitsOf.{units_of}
-use Rattle.elastic_ast.specs.Instances.{Instance, instances}
-use Rattle.elastic_ast.specs.Work.{index_at, pred_place, index_around, unit_writes, instance_writes}
+use Rattle.elastic_ast.specs.Instances.{instances}
+use Rattle.elastic_ast.specs.Work.{index_at, pred_place, index_around, unit_writes}
 
 -- the spot of a location, with an index around it: only what is own has the index
 abbrev pub spot_of : Location → Option ℕ → Spot

@@ -1,7 +1,6 @@
 -- The instances of units at sizes, in the order of the sequential run; this project's own. Sizes are a number for each number
 -- of a symbol.
-use Rattle.std.specs.Prelude.{ℕ, zero, suc, ◌+◌, ◌==◌, nat_eq, Bool, false, ◌&&◌, List, [], ◌∷◌, ◌++◌, map, get_or, Option, Some, None, if◌then◌else◌}
-use Rattle.std.specs.Option.{option_eq}
+use Rattle.std.specs.Prelude.{ℕ, zero, suc, ◌+◌, ◌==◌, Bool, false, ◌&&◌, List, [], ◌∷◌, ◌++◌, map, get_or, Option, Some, None, if◌then◌else◌}
 use Rattle.elastic_ast.specs.Tree.{PlainDecl}
 use Rattle.elastic_ast.specs.PlainUnits.{PlainUnit}
 use Rattle.elastic_ast.specs.UnitsOf.{units_of}

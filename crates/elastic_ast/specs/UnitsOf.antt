@@ -1,5 +1,5 @@
 -- The units of a program, in the order of the text, and the header bits that it takes; this project's own.
-use Rattle.std.specs.Prelude.{ℕ, zero, ◌+◌, ◌≤◌, ◌==◌, nat_eq, Bool, true, false, List, [], ◌∷◌, ◌++◌, map, All, sum_by, is_some, Option, Some, None, option_map, if◌then◌else◌}
+use Rattle.std.specs.Prelude.{◌≡◌, ℕ, ◌+◌, ◌≤◌, nat_eq, Bool, false, List, [], ◌∷◌, ◌++◌, map, All, sum_by, is_some, Option, Some, None, option_map, if◌then◌else◌}
 use Rattle.std.specs.Option.{option_eq}
 use Rattle.elastic_ast.specs.declared.declarations.Field.{Field}
 use Rattle.elastic_ast.specs.Tree.{Name, PlainDecl}
@@ -7,8 +7,8 @@ use Rattle.elastic_ast.specs.Scope.{same}
 use Rattle.elastic_ast.specs.Sums.{symbols_of}
 use Rattle.elastic_ast.specs.LookUps.{members_of, fields_of_type, header_bits, meta_fields}
 use Rattle.elastic_ast.specs.Parts.{body_of}
-use Rattle.elastic_ast.specs.PlainUnits.{PlainWork, Plain, Call, Apply, Pred, PlainUnit}
-use Rattle.elastic_ast.specs.Cuts.{Piece, Cuts, Nil, One, Loop, append, tests_in, cut_all}
+use Rattle.elastic_ast.specs.PlainUnits.{PlainUnit, PlainUnits}
+use Rattle.elastic_ast.specs.Cuts.{Piece, Cuts, Nil, One, Loop, tests_in, cut_all}
 use Rattle.elastic_ast.specs.Reach.{piece_reads, piece_writes}
 use Rattle.elastic_ast.specs.Costs.{piece_ops, cost_of, symbol_number, cells_named, width_named, exact_bits, masked_bits, table_applied}
 
@@ -98,3 +98,9 @@ bits_of_symbol decls symbol =
 
 abbrev pub symbol_bits : List PlainDecl → List ℕ
 symbol_bits decls = map (bits_of_symbol decls) (symbols_of decls)
+
+-- these are the units of the program, with the header bits that it takes. Their terms are no part of this.
+pub record UnitsOf (decls : List PlainDecl) (units : PlainUnits) : Type 0 where
+  pub list : units.list ≡ units_of decls
+  pub fixed : units.fixed_bits ≡ fixed_bits decls
+  pub symbols : units.symbol_bits ≡ symbol_bits decls

@@ -1,5 +1,5 @@
 -- What an instance of a unit writes at a memory, and the memory after instances; this project's own.
-use Rattle.std.specs.Prelude.{ℕ, ◌==◌, Bool, true, false, ◌&&◌, is_some, List, [], ◌∷◌, Option, Some, None, option_map, if◌then◌else◌}
+use Rattle.std.specs.Prelude.{ℕ, ◌==◌, Bool, true, false, ◌&&◌, is_some, List, [], ◌∷◌, Option, None, option_map}
 use Rattle.elastic_ast.specs.declared.flat.Lit.{Lit}
 use Rattle.elastic_ast.specs.declared.flat.Location.TheVariants as location
 use Rattle.elastic_ast.specs.Tree.{PlainDecl, PlainExpr, PlainStmt}

@@ -1,5 +1,5 @@
 -- Small programs and what their units are, for the equations that show what units are; this project's own.
-use Rattle.std.specs.Prelude.{ℕ, zero, suc, Bool, true, false, List, [], ◌∷◌, map, slice_get, Option, Some, None, codes}
+use Rattle.std.specs.Prelude.{ℕ, zero, suc, Bool, true, false, List, [], ◌∷◌, map, Option, Some, None, codes}
 use Rattle.elastic_ast.specs.declared.declarations.Field.{Field}
 use Rattle.elastic_ast.specs.declared.statements.Amount.TheVariants as amount
 use Rattle.elastic_ast.specs.declared.statements.Lval.{Lval}
@@ -9,7 +9,7 @@ use Rattle.elastic_ast.specs.declared.flat.Lit.{Lit}
 use Rattle.elastic_ast.specs.declared.flat.Cells.{Cells}
 use Rattle.elastic_ast.specs.declared.flat.Location.{Location}
 use Rattle.elastic_ast.specs.declared.flat.Location.TheVariants as location
-use Rattle.elastic_ast.specs.Tree.{Name, PlainDecl, PlainExpr, PlainStmt, PlainStmts, PlainKeyset, PlainEntry, PlainAction, PlainTable, PlainLocal}
+use Rattle.elastic_ast.specs.Tree.{Name, PlainDecl, PlainExpr, PlainStmt, PlainKeyset, PlainEntry, PlainAction, PlainTable, PlainLocal}
 use Rattle.elastic_ast.specs.PlainUnits.{PlainWork, PlainUnit}
 use Rattle.elastic_ast.specs.UnitsOf.{units_of}
 use Rattle.elastic_ast.specs.Order.{Relation, order}
@@ -25,9 +25,11 @@ framed symbols header metadata registers locals body = join symbols
   where
     rest : List PlainDecl
     rest = PlainDecl.Control (codes "C") locals (stmts body) ∷ PlainDecl.Deparser (codes "D") (codes "h" ∷ []) ∷ PlainDecl.Main (codes "P") (codes "C") (codes "D") ∷ []
+
     after_registers : List PlainDecl → List PlainDecl
     after_registers [] = rest
     after_registers (first ∷ others) = first ∷ after_registers others
+
     join : List PlainDecl → List PlainDecl
     join [] = PlainDecl.Header (codes "h_t") header ∷ PlainDecl.Headers ((codes "h_t", codes "h") ∷ []) ∷ PlainDecl.Meta metadata ∷ after_registers registers
     join (first ∷ others) = first ∷ join others
