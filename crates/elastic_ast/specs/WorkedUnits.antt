@@ -1,5 +1,5 @@
 -- Small programs and what their units are, for the equations that show what units are; this project's own.
-use Rattle.std.specs.Prelude.{ℕ, zero, suc, Bool, true, false, List, [], ◌∷◌, map, Option, Some, None, codes}
+use Rattle.std.specs.Prelude.{ℕ, zero, suc, Bool, true, false, List, [], ◌∷◌, ◌++◌, map, Option, Some, None, codes}
 use Rattle.elastic_ast.specs.declared.declarations.Field.{Field}
 use Rattle.elastic_ast.specs.declared.statements.Amount.TheVariants as amount
 use Rattle.elastic_ast.specs.declared.statements.Lval.{Lval}
@@ -19,20 +19,18 @@ use Rattle.elastic_ast.specs.WorkedProgram.{stmts, assign, is}
 abbrev pub field : Name → ℕ → Option Name → Field
 field name width size = record { name = name; width = width; size = size }
 
--- the parts of a program around a control: symbols, one header `h`, metadata, registers, locals and a body
+-- a program: symbols, one header `h`, metadata, registers, and a control with locals and a body
 abbrev pub framed : List PlainDecl → List Field → List Field → List PlainDecl → List PlainLocal → List PlainStmt → List PlainDecl
-framed symbols header metadata registers locals body = join symbols
-  where
-    rest : List PlainDecl
-    rest = PlainDecl.Control (codes "C") locals (stmts body) ∷ PlainDecl.Deparser (codes "D") (codes "h" ∷ []) ∷ PlainDecl.Main (codes "P") (codes "C") (codes "D") ∷ []
-
-    after_registers : List PlainDecl → List PlainDecl
-    after_registers [] = rest
-    after_registers (first ∷ others) = first ∷ after_registers others
-
-    join : List PlainDecl → List PlainDecl
-    join [] = PlainDecl.Header (codes "h_t") header ∷ PlainDecl.Headers ((codes "h_t", codes "h") ∷ []) ∷ PlainDecl.Meta metadata ∷ after_registers registers
-    join (first ∷ others) = first ∷ join others
+framed symbols header metadata registers locals body =
+    symbols
+    ++ (PlainDecl.Header (codes "h_t") header
+    ∷ PlainDecl.Headers ((codes "h_t", codes "h") ∷ [])
+    ∷ PlainDecl.Meta metadata
+    ∷ (registers
+    ++ (PlainDecl.Control (codes "C") locals (stmts body)
+    ∷ PlainDecl.Deparser (codes "D") (codes "h" ∷ [])
+    ∷ PlainDecl.Main (codes "P") (codes "C") (codes "D")
+    ∷ [])))
 
 -- fields of `hdr.h`
 abbrev pub in_header : Name → Lval
@@ -288,3 +286,56 @@ element_in_loop = small (loop (assign e 1 ∷ PlainStmt.Assign a (get e) ∷ [])
 -- two assignments
 abbrev pub then : PlainStmt → PlainStmt → List PlainUnit
 then first second = units_of (small (first ∷ second ∷ []))
+
+-- `hdr.h.setInvalid(); if (hdr.h.isValid()) { hdr.h.a = 1; }`
+abbrev pub validity : List PlainDecl
+validity = small (PlainStmt.Valid (codes "h") false ∷ when (PlainExpr.IsValid (codes "h")) (assign a 1 ∷ []) ∷ [])
+
+-- `put(hdr.h.a + 1)`
+abbrev pub call_with_argument : List PlainDecl
+call_with_argument =
+    framed [] (field (codes "a") 8 None ∷ []) [] [] (PlainLocal.OfAction put_action ∷ [])
+    (PlainStmt.Call (codes "put") None (PlainExpr.Binary 13 (get a) (bare 1) ∷ []) ∷ [])
+
+-- an expression of a join, a cast, a slice and a turned number
+abbrev pub four_operators : PlainExpr
+four_operators = PlainExpr.Binary 15 (PlainExpr.Cast 8 (PlainExpr.Slice (get a) 3 0)) (PlainExpr.Unary 17 (get b))
+
+-- packets with a big field of 0 are counted in one cell and dropped
+abbrev pub big : Lval
+big = in_header (codes "big")
+
+abbrev pub drop_field : Lval
+drop_field = lval.Std (codes "drop")
+
+abbrev pub seen_register : RegRef
+seen_register = record { name = codes "seen"; index = None }
+
+abbrev pub note_action : PlainAction
+note_action =
+    record {
+      name = codes "note";
+      index = None;
+      params = [];
+      body =
+          stmts
+          (PlainStmt.Read (scalar (codes "n")) seen_register (bare 0)
+          ∷ PlainStmt.Write seen_register (bare 0) (PlainExpr.Binary 13 (get (scalar (codes "n"))) (bare 1))
+          ∷ []);
+    }
+
+abbrev pub big_headers : List PlainDecl
+big_headers =
+    framed [] (field (codes "big") 128 None ∷ []) (field (codes "n") 8 None ∷ []) (PlainDecl.Register (codes "seen") 8 (amount.Num 1) None ∷ [])
+    (PlainLocal.OfAction note_action ∷ [])
+    (PlainStmt.Call (codes "note") None []
+    ∷ when (is big 0) (assign drop_field 1 ∷ [])
+    ∷ PlainStmt.Assign big (PlainExpr.Binary 13 (get big) (bare 1))
+    ∷ PlainStmt.Assign (lval.Std (codes "out_port")) (get (lval.Std (codes "in_port")))
+    ∷ [])
+
+abbrev pub at_big : Location
+at_big = location.Header (codes "h") (codes "big")
+
+abbrev pub at_std : Name → Location
+at_std name = location.Std name

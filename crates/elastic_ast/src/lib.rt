@@ -32,8 +32,9 @@ pub use rule::Rule;
 pub use statements::{Amount, Expr, Lval, RegRef, Stmt};
 pub use unit_examples::{
     bits_of_a_table, flat_names, instances_of_a_sketch, orders_of_two_units,
-    registers_of_two_units, stages_of_blocks, units_of_a_branch, units_of_a_sketch,
-    units_of_conditions_over_more, units_of_conditions_over_one_unit, units_of_loops,
+    registers_of_two_units, stages_of_blocks, units_of_a_branch, units_of_a_call,
+    units_of_a_sketch, units_of_big_headers, units_of_conditions_over_more,
+    units_of_conditions_over_one_unit, units_of_loops, units_of_validity,
 };
 pub use unit_laws::{
     cut_keeps_the_meaning, free_neighbours_exchange, instances_have_footprints, lists_agree,

@@ -3,14 +3,16 @@
 
 ghost use Rattle.std.specs.Prelude.{◌≡◌, true, false, List, [], ◌∷◌, Option, Some, None, codes};
 ghost use Rattle.elastic_ast.specs.declared.flat.Cells.TheVariants as cells;
+ghost use Rattle.elastic_ast.specs.declared.flat.Location.TheVariants as location;
 ghost use Rattle.elastic_ast.specs.Tree.{PlainStmt};
 ghost use Rattle.elastic_ast.specs.PlainUnits.{PlainWork};
 ghost use Rattle.elastic_ast.specs.UnitsOf.{units_of, fixed_bits, symbol_bits};
+ghost use Rattle.elastic_ast.specs.Costs.{expr_ops};
 ghost use Rattle.elastic_ast.specs.Instances.{instances_of};
 ghost use Rattle.elastic_ast.specs.Order.{Relation};
 ghost use Rattle.elastic_ast.specs.FlatNames.{flat_name, SameRegisters};
 ghost use Rattle.elastic_ast.specs.WorkedProgram.{assign, is};
-ghost use Rattle.elastic_ast.specs.WorkedUnits.{a, b, e, get, small, when, set, on, off, own_on, at_a, at_b, at_e, at_pred, lits_of, conds_of, works_of, reads_of, writes_of, costs_of, ops_of, stages_of, loops_of, cells_of, bits_of, order_of_two, order_of_turns, sketch, is_less, call_in_loop, scalar, own_meta, own_sketch, at_low, at_src, sizes_of_sketch, two_arrays, with_table, branch, branch_in_branch, two_branches, loop_in_branch, branch_in_loop, blocks, element_in_loop, then};
+ghost use Rattle.elastic_ast.specs.WorkedUnits.{a, b, e, get, small, when, set, on, off, own_on, at_a, at_b, at_e, at_pred, lits_of, conds_of, works_of, reads_of, writes_of, costs_of, ops_of, stages_of, loops_of, cells_of, bits_of, order_of_two, order_of_turns, sketch, is_less, call_in_loop, scalar, own_meta, own_sketch, at_low, at_src, sizes_of_sketch, two_arrays, with_table, branch, branch_in_branch, two_branches, loop_in_branch, branch_in_loop, blocks, element_in_loop, then, validity, call_with_argument, four_operators, big_headers, at_big, at_std};
 
 /// A condition over two statements is one condition unit and two guarded units.
 pub fn units_of_a_branch()
@@ -126,6 +128,32 @@ pub fn bits_of_a_table()
     ensures writes { writes_of (with_table true None) ≡ (at_a ∷ []) ∷ [] }
     ensures ops { ops_of (with_table true None) ≡ 0 ∷ [] }
     ensures work { works_of (with_table true None) ≡ PlainWork.Apply (codes "t") ∷ [] }
+{}
+
+/// The validity of a header is a location of its own.
+pub fn units_of_validity()
+    ensures reads { reads_of validity ≡ [] ∷ (location.Valid (codes "h") ∷ []) ∷ [] }
+    ensures writes { writes_of validity ≡ (location.Valid (codes "h") ∷ []) ∷ (at_a ∷ []) ∷ [] }
+    ensures ops { ops_of validity ≡ 0 ∷ 1 ∷ [] }
+    ensures order { order_of_two 0 0 (units_of validity) ≡ Some Relation.Before }
+{}
+
+/// A call counts its arguments and the body of its action.
+pub fn units_of_a_call()
+    ensures reads { reads_of call_with_argument ≡ (at_a ∷ []) ∷ [] }
+    ensures writes { writes_of call_with_argument ≡ (at_a ∷ []) ∷ [] }
+    ensures ops { ops_of call_with_argument ≡ 1 ∷ [] }
+    ensures operators { expr_ops four_operators ≡ 4 }
+{}
+
+/// A call that counts in a register of one cell, a guarded assignment and two plain ones.
+pub fn units_of_big_headers()
+    ensures reads { reads_of big_headers ≡ (location.Reg (codes "seen") false ∷ location.Meta (codes "n") false ∷ []) ∷ (at_big ∷ []) ∷ (at_big ∷ []) ∷ (at_std (codes "in_port") ∷ []) ∷ [] }
+    ensures writes { writes_of big_headers ≡ (location.Meta (codes "n") false ∷ location.Reg (codes "seen") false ∷ []) ∷ (at_std (codes "drop") ∷ []) ∷ (at_big ∷ []) ∷ (at_std (codes "out_port") ∷ []) ∷ [] }
+    ensures costs { costs_of big_headers ≡ 1 ∷ 1 ∷ 1 ∷ 1 ∷ [] }
+    ensures ops { ops_of big_headers ≡ 1 ∷ 1 ∷ 1 ∷ 0 ∷ [] }
+    ensures cells { cells_of big_headers ≡ (Some (cells.Fixed 1), 8) ∷ (None, 0) ∷ (None, 0) ∷ (None, 0) ∷ [] }
+    ensures fixed { fixed_bits big_headers ≡ 137 }
 {}
 
 /// Elements and registers under their flat names.
