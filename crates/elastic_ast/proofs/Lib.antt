@@ -22,3 +22,11 @@ pub mod HashLaws
 pub mod FindLaws
 pub mod TakenLaws
 pub mod ParserEndLaws
+pub mod UnitLists
+pub mod Depends
+pub mod Footprints
+pub mod EachUnit
+pub mod Exchange
+pub mod SamePieces
+pub mod KeptMeaning
+pub mod InstanceRuns

@@ -13,6 +13,8 @@ mod rule;
 mod slot;
 mod spot;
 mod statements;
+mod unit_examples;
+mod unit_laws;
 mod vector;
 mod vector_law;
 
@@ -32,5 +34,14 @@ pub use packet_law::{law_of_parser_ends, law_of_taken_locations};
 pub use registers::Registers;
 pub use rule::Rule;
 pub use statements::{Amount, Expr, Lval, RegRef, Stmt};
+pub use unit_examples::{
+    bits_of_a_table, flat_names, instances_of_a_sketch, orders_of_two_units,
+    registers_of_two_units, stages_of_blocks, units_of_a_branch, units_of_a_call,
+    units_of_a_sketch, units_of_big_headers, units_of_conditions_over_more,
+    units_of_conditions_over_one_unit, units_of_loops, units_of_validity,
+};
+pub use unit_laws::{
+    cut_keeps_the_meaning, free_neighbours_exchange, instances_have_footprints, lists_agree,
+};
 pub use vector::Vector;
 pub use vector_law::{law_of_places, law_of_writes};

@@ -1,0 +1,341 @@
+-- Small programs and what their units are, for the equations that show what units are; this project's own.
+use Rattle.std.specs.Prelude.{ℕ, zero, suc, Bool, true, false, List, [], ◌∷◌, ◌++◌, map, Option, Some, None, codes}
+use Rattle.elastic_ast.specs.declared.declarations.Field.{Field}
+use Rattle.elastic_ast.specs.declared.statements.Amount.TheVariants as amount
+use Rattle.elastic_ast.specs.declared.statements.Lval.{Lval}
+use Rattle.elastic_ast.specs.declared.statements.Lval.TheVariants as lval
+use Rattle.elastic_ast.specs.declared.statements.RegRef.{RegRef}
+use Rattle.elastic_ast.specs.declared.flat.Lit.{Lit}
+use Rattle.elastic_ast.specs.declared.flat.Cells.{Cells}
+use Rattle.elastic_ast.specs.declared.flat.Location.{Location}
+use Rattle.elastic_ast.specs.declared.flat.Location.TheVariants as location
+use Rattle.elastic_ast.specs.Tree.{Name, PlainDecl, PlainExpr, PlainStmt, PlainKeyset, PlainEntry, PlainAction, PlainTable, PlainLocal}
+use Rattle.elastic_ast.specs.PlainUnits.{PlainWork, PlainUnit}
+use Rattle.elastic_ast.specs.UnitsOf.{units_of}
+use Rattle.elastic_ast.specs.Order.{Relation, order}
+use Rattle.elastic_ast.specs.WorkedValues.{bare}
+use Rattle.elastic_ast.specs.WorkedProgram.{stmts, assign, is}
+
+abbrev pub field : Name → ℕ → Option Name → Field
+field name width size = record { name = name; width = width; size = size }
+
+-- a program: symbols, one header `h`, metadata, registers, and a control with locals and a body
+abbrev pub framed : List PlainDecl → List Field → List Field → List PlainDecl → List PlainLocal → List PlainStmt → List PlainDecl
+framed symbols header metadata registers locals body =
+    symbols
+    ++ (PlainDecl.Header (codes "h_t") header
+    ∷ PlainDecl.Headers ((codes "h_t", codes "h") ∷ [])
+    ∷ PlainDecl.Meta metadata
+    ∷ (registers
+    ++ (PlainDecl.Control (codes "C") locals (stmts body)
+    ∷ PlainDecl.Deparser (codes "D") (codes "h" ∷ [])
+    ∷ PlainDecl.Main (codes "P") (codes "C") (codes "D")
+    ∷ [])))
+
+-- fields of `hdr.h`
+abbrev pub in_header : Name → Lval
+in_header name = lval.Header (codes "h") name
+
+abbrev pub a : Lval
+a = in_header (codes "a")
+
+abbrev pub b : Lval
+b = in_header (codes "b")
+
+-- `meta.e[i]`, an element of the array `e` of size `s`
+abbrev pub e : Lval
+e = lval.Meta (codes "e") (Some (codes "i"))
+
+abbrev pub get : Lval → PlainExpr
+get from = PlainExpr.At from
+
+-- the header has `a` and `b` of 8 bits, the metadata an array of bytes of size `s`
+abbrev pub small : List PlainStmt → List PlainDecl
+small body =
+    framed (PlainDecl.Symbol (codes "s") ∷ []) (field (codes "a") 8 None ∷ field (codes "b") 8 None ∷ [])
+    (field (codes "e") 8 (Some (codes "s")) ∷ []) [] [] body
+
+abbrev pub when : PlainExpr → List PlainStmt → PlainStmt
+when condition body = PlainStmt.If condition (stmts body)
+
+abbrev pub when_else : PlainExpr → List PlainStmt → List PlainStmt → PlainStmt
+when_else condition body other = PlainStmt.IfElse condition (stmts body) (stmts other)
+
+-- `for (i < s) { .. }`
+abbrev pub loop : List PlainStmt → PlainStmt
+loop body = PlainStmt.For (codes "i") (codes "s") (stmts body)
+
+abbrev pub staged : ℕ → List PlainStmt → PlainStmt
+staged stage body = PlainStmt.Block (Some stage) (stmts body)
+
+abbrev pub set : Lval → ℕ → PlainWork
+set to number = PlainWork.Plain (assign to number)
+
+abbrev pub on : ℕ → Lit
+on number = record { number = number; own = false; on = true }
+
+abbrev pub off : ℕ → Lit
+off number = record { number = number; own = false; on = false }
+
+abbrev pub own_on : ℕ → Lit
+own_on number = record { number = number; own = true; on = true }
+
+-- the locations of `hdr.h.a`, `hdr.h.b`, `meta.e[i]` and a predicate outside of loops
+abbrev pub at_a : Location
+at_a = location.Header (codes "h") (codes "a")
+
+abbrev pub at_b : Location
+at_b = location.Header (codes "h") (codes "b")
+
+abbrev pub at_e : Location
+at_e = location.Meta (codes "e") true
+
+abbrev pub at_pred : ℕ → Location
+at_pred number = location.Pred number false
+
+-- parts of all units of a program
+abbrev pub lits_of : List PlainDecl → List (List Lit)
+lits_of decls = map (λ unit. unit.lits) (units_of decls)
+
+abbrev pub conds_of : List PlainDecl → List (List PlainExpr)
+conds_of decls = map (λ unit. unit.conds) (units_of decls)
+
+abbrev pub works_of : List PlainDecl → List PlainWork
+works_of decls = map (λ unit. unit.work) (units_of decls)
+
+abbrev pub reads_of : List PlainDecl → List (List Location)
+reads_of decls = map (λ unit. unit.reads) (units_of decls)
+
+abbrev pub writes_of : List PlainDecl → List (List Location)
+writes_of decls = map (λ unit. unit.writes) (units_of decls)
+
+abbrev pub costs_of : List PlainDecl → List ℕ
+costs_of decls = map (λ unit. unit.cost) (units_of decls)
+
+abbrev pub ops_of : List PlainDecl → List ℕ
+ops_of decls = map (λ unit. unit.ops) (units_of decls)
+
+abbrev pub stages_of : List PlainDecl → List (Option ℕ)
+stages_of decls = map (λ unit. unit.stage) (units_of decls)
+
+-- the number of the loop, the number of its size, and the name of its index
+abbrev pub loops_of : List PlainDecl → List (Option ℕ × Option ℕ × Option Name)
+loops_of decls = map (λ unit. (unit.loop_no, unit.size, unit.index)) (units_of decls)
+
+abbrev pub cells_of : List PlainDecl → List (Option Cells × ℕ)
+cells_of decls = map (λ unit. (unit.cells, unit.cell_width)) (units_of decls)
+
+-- table bits and ternary bits
+abbrev pub bits_of : List PlainDecl → List (ℕ × ℕ)
+bits_of decls = map (λ unit. (unit.table_bits, unit.ternary_bits)) (units_of decls)
+
+-- the order of the first two units, at two indices
+abbrev pub order_of_two : ℕ → ℕ → List PlainUnit → Option Relation
+order_of_two index index' (first ∷ second ∷ rest) = Some (order first second index index')
+order_of_two index index' (first ∷ []) = None
+order_of_two index index' [] = None
+
+-- the order of two instances of the first unit
+abbrev pub order_of_turns : ℕ → ℕ → List PlainUnit → Option Relation
+order_of_turns index index' (first ∷ rest) = Some (order first first index index')
+order_of_turns index index' [] = None
+
+-- a count-min sketch: `count` hashes a field into a row of the register array `sketch` and counts there, and the least count is
+-- kept in `low`
+abbrev pub scalar : Name → Lval
+scalar name = lval.Meta name None
+
+abbrev pub element : Name → Lval
+element name = lval.Meta name (Some (codes "i"))
+
+abbrev pub sketch_row : RegRef
+sketch_row = record { name = codes "sketch"; index = Some (codes "i") }
+
+abbrev pub count_action : PlainAction
+count_action =
+    record {
+      name = codes "count";
+      index = Some (codes "i");
+      params = [];
+      body =
+          stmts
+          (PlainStmt.Assign (element (codes "idx")) (PlainExpr.Hash (amount.Named (codes "i")) (get (in_header (codes "src"))) (amount.Named (codes "cols")))
+          ∷ PlainStmt.Read (element (codes "cnt")) sketch_row (get (element (codes "idx")))
+          ∷ PlainStmt.Write sketch_row (get (element (codes "idx"))) (PlainExpr.Binary 13 (get (element (codes "cnt"))) (bare 1))
+          ∷ []);
+    }
+
+abbrev pub least_action : PlainAction
+least_action =
+    record {
+      name = codes "least";
+      index = Some (codes "i");
+      params = [];
+      body = stmts (PlainStmt.Assign (scalar (codes "low")) (get (element (codes "cnt"))) ∷ []);
+    }
+
+abbrev pub call_in_loop : Name → PlainStmt
+call_in_loop action = PlainStmt.Call action (Some (codes "i")) []
+
+abbrev pub is_less : PlainExpr
+is_less = PlainExpr.Binary 4 (get (element (codes "cnt"))) (get (scalar (codes "low")))
+
+abbrev pub sketch : List PlainDecl
+sketch =
+    framed (PlainDecl.Symbol (codes "rows") ∷ PlainDecl.Symbol (codes "cols") ∷ [])
+    (field (codes "dst") 48 None ∷ field (codes "src") 48 None ∷ field (codes "kind") 16 None ∷ [])
+    (field (codes "idx") 32 (Some (codes "rows")) ∷ field (codes "cnt") 32 (Some (codes "rows")) ∷ field (codes "low") 32 None ∷ [])
+    (PlainDecl.Register (codes "sketch") 32 (amount.Named (codes "cols")) (Some (codes "rows")) ∷ [])
+    (PlainLocal.OfAction count_action ∷ PlainLocal.OfAction least_action ∷ [])
+    (assign (scalar (codes "low")) 0xFFFFFFFF
+    ∷ PlainStmt.For (codes "i") (codes "rows") (stmts (call_in_loop (codes "count") ∷ when is_less (call_in_loop (codes "least") ∷ []) ∷ []))
+    ∷ [])
+
+abbrev pub own_meta : Name → Location
+own_meta name = location.Meta name true
+
+abbrev pub own_sketch : Location
+own_sketch = location.Reg (codes "sketch") true
+
+abbrev pub at_low : Location
+at_low = location.Meta (codes "low") false
+
+abbrev pub at_src : Location
+at_src = location.Header (codes "h") (codes "src")
+
+-- the first size is that of `rows`, the second that of `cols`
+abbrev pub sizes_of_sketch : ℕ → ℕ → ℕ
+sizes_of_sketch rows zero = rows
+sizes_of_sketch rows (suc symbol) = 100
+
+-- two register arrays: `meta.x = ra.read(0); meta.y = rb.read(0);`
+abbrev pub plain_register : Name → RegRef
+plain_register name = record { name = name; index = None }
+
+abbrev pub two_arrays : List PlainDecl
+two_arrays =
+    framed (PlainDecl.Symbol (codes "a") ∷ PlainDecl.Symbol (codes "b") ∷ []) (field (codes "v") 8 None ∷ [])
+    (field (codes "x") 32 None ∷ field (codes "y") 32 None ∷ [])
+    (PlainDecl.Register (codes "ra") 32 (amount.Named (codes "a")) None ∷ PlainDecl.Register (codes "rb") 32 (amount.Named (codes "b")) None ∷ [])
+    []
+    (PlainStmt.Read (scalar (codes "x")) (plain_register (codes "ra")) (bare 0)
+    ∷ PlainStmt.Read (scalar (codes "y")) (plain_register (codes "rb")) (bare 0)
+    ∷ [])
+
+-- a table over `hdr.h.a` with two entries that run `put(n)`, which assigns `n` to it
+abbrev pub put_action : PlainAction
+put_action =
+    record {
+      name = codes "put";
+      index = None;
+      params = record { name = codes "n"; width = 8 } ∷ [];
+      body = stmts (PlainStmt.Assign a (PlainExpr.Named (codes "n")) ∷ []);
+    }
+
+abbrev pub row : PlainKeyset → ℕ → PlainEntry
+row set number = record { keys = set ∷ []; action = codes "put"; args = bare number ∷ [] }
+
+abbrev pub two_entries : Bool → Option ℕ → PlainTable
+two_entries ternary size =
+    record {
+      name = codes "t";
+      keys = record { field = a; ternary = ternary } ∷ [];
+      actions = codes "put" ∷ codes "NoAction" ∷ [];
+      entries = row (PlainKeyset.Masked (bare 5) (bare 0xF)) 1 ∷ row (PlainKeyset.One (bare 0x15)) 2 ∷ [];
+      fallback = Some (codes "NoAction", []);
+      size = size;
+    }
+
+abbrev pub with_table : Bool → Option ℕ → List PlainDecl
+with_table ternary size =
+    framed [] (field (codes "a") 8 None ∷ []) [] [] (PlainLocal.OfAction put_action ∷ PlainLocal.OfTable (two_entries ternary size) ∷ [])
+    (PlainStmt.Apply (codes "t") ∷ [])
+
+-- `if (hdr.h.a == 0) { hdr.h.a = 1; hdr.h.b = 2; }`
+abbrev pub branch : List PlainDecl
+branch = small (when (is a 0) (assign a 1 ∷ assign b 2 ∷ []) ∷ [])
+
+-- `if (hdr.h.a == 0) { if (hdr.h.b == 1) { } hdr.h.a = 3; if (hdr.h.b == 2) { hdr.h.a = 4; hdr.h.b = 5; } }`
+abbrev pub branch_in_branch : List PlainDecl
+branch_in_branch =
+    small
+    (when (is a 0) (when (is b 1) [] ∷ assign a 3 ∷ when (is b 2) (assign a 4 ∷ assign b 5 ∷ []) ∷ []) ∷ [])
+
+-- `if (hdr.h.a == 0) { hdr.h.a = 1; } else { if (hdr.h.b == 1) { hdr.h.b = 2; } }`
+abbrev pub two_branches : List PlainDecl
+two_branches = small (when_else (is a 0) (assign a 1 ∷ []) (when (is b 1) (assign b 2 ∷ []) ∷ []) ∷ [])
+
+-- `if (hdr.h.a == 0) { for (i < s) { meta.e[i] = 1; } }`
+abbrev pub loop_in_branch : List PlainDecl
+loop_in_branch = small (when (is a 0) (loop (assign e 1 ∷ []) ∷ []) ∷ [])
+
+-- `for (i < s) { } for (i < s) { if (meta.e[i] == 0) { meta.e[i] = 1; hdr.h.a = 2; } }`
+abbrev pub branch_in_loop : List PlainDecl
+branch_in_loop = small (loop [] ∷ loop (when (is e 0) (assign e 1 ∷ assign a 2 ∷ []) ∷ []) ∷ [])
+
+-- `@stage(3) { @stage(1) { hdr.h.a = 1; } hdr.h.b = 2; { hdr.h.a = 3; } } hdr.h.b = 4;`
+abbrev pub blocks : List PlainDecl
+blocks =
+    small
+    (staged 3 (staged 1 (assign a 1 ∷ []) ∷ assign b 2 ∷ PlainStmt.Block None (stmts (assign a 3 ∷ [])) ∷ []) ∷ assign b 4 ∷ [])
+
+-- `for (i < s) { meta.e[i] = 1; hdr.h.a = meta.e[i]; }`
+abbrev pub element_in_loop : List PlainDecl
+element_in_loop = small (loop (assign e 1 ∷ PlainStmt.Assign a (get e) ∷ []) ∷ [])
+
+-- two assignments
+abbrev pub then : PlainStmt → PlainStmt → List PlainUnit
+then first second = units_of (small (first ∷ second ∷ []))
+
+-- `hdr.h.setInvalid(); if (hdr.h.isValid()) { hdr.h.a = 1; }`
+abbrev pub validity : List PlainDecl
+validity = small (PlainStmt.Valid (codes "h") false ∷ when (PlainExpr.IsValid (codes "h")) (assign a 1 ∷ []) ∷ [])
+
+-- `put(hdr.h.a + 1)`
+abbrev pub call_with_argument : List PlainDecl
+call_with_argument =
+    framed [] (field (codes "a") 8 None ∷ []) [] [] (PlainLocal.OfAction put_action ∷ [])
+    (PlainStmt.Call (codes "put") None (PlainExpr.Binary 13 (get a) (bare 1) ∷ []) ∷ [])
+
+-- an expression of a join, a cast, a slice and a turned number
+abbrev pub four_operators : PlainExpr
+four_operators = PlainExpr.Binary 15 (PlainExpr.Cast 8 (PlainExpr.Slice (get a) 3 0)) (PlainExpr.Unary 17 (get b))
+
+-- packets with a big field of 0 are counted in one cell and dropped
+abbrev pub big : Lval
+big = in_header (codes "big")
+
+abbrev pub drop_field : Lval
+drop_field = lval.Std (codes "drop")
+
+abbrev pub seen_register : RegRef
+seen_register = record { name = codes "seen"; index = None }
+
+abbrev pub note_action : PlainAction
+note_action =
+    record {
+      name = codes "note";
+      index = None;
+      params = [];
+      body =
+          stmts
+          (PlainStmt.Read (scalar (codes "n")) seen_register (bare 0)
+          ∷ PlainStmt.Write seen_register (bare 0) (PlainExpr.Binary 13 (get (scalar (codes "n"))) (bare 1))
+          ∷ []);
+    }
+
+abbrev pub big_headers : List PlainDecl
+big_headers =
+    framed [] (field (codes "big") 128 None ∷ []) (field (codes "n") 8 None ∷ []) (PlainDecl.Register (codes "seen") 8 (amount.Num 1) None ∷ [])
+    (PlainLocal.OfAction note_action ∷ [])
+    (PlainStmt.Call (codes "note") None []
+    ∷ when (is big 0) (assign drop_field 1 ∷ [])
+    ∷ PlainStmt.Assign big (PlainExpr.Binary 13 (get big) (bare 1))
+    ∷ PlainStmt.Assign (lval.Std (codes "out_port")) (get (lval.Std (codes "in_port")))
+    ∷ [])
+
+abbrev pub at_big : Location
+at_big = location.Header (codes "h") (codes "big")
+
+abbrev pub at_std : Name → Location
+at_std name = location.Std name

@@ -1,0 +1,33 @@
+//! Laws of units and their instances, each the contract of an empty function.
+
+ghost use Rattle.elastic_ast.specs.CutInstances.{ListsAgree, ProgramListsAgree};
+ghost use Rattle.elastic_ast.specs.Footprints.{UnitsHaveFootprints, InstancesHaveFootprints};
+ghost use Rattle.elastic_ast.specs.CutMeaning.{PiecesKeepTheMeaning, InstancesKeepTheMeaning};
+ghost use Rattle.elastic_ast.specs.Exchange.{OrderIsUndisturbed, OrderIsFree, FreeExchange};
+
+/// The instances of the flat list are those of the pieces with their loops, in order.
+pub fn lists_agree()
+    ensures pieces { ListsAgree }
+    ensures program { ProgramListsAgree }
+{}
+
+/// What an instance writes lies in its unit's writes, at its index, and what it writes depends on its unit's reads alone.
+pub fn instances_have_footprints()
+    ensures units { UnitsHaveFootprints }
+    ensures instances { InstancesHaveFootprints }
+{}
+
+/// Two instances whose order is free may be exchanged; and an instance that doesn't stand before another doesn't change what the
+/// other writes.
+pub fn free_neighbours_exchange()
+    ensures exchange { FreeExchange }
+    ensures free { OrderIsFree }
+    ensures undisturbed { OrderIsUndisturbed }
+{}
+
+/// The instances of the units of a program, in order, do what its body does, predicates aside: at all sizes and in every memory,
+/// where no loop stands in a loop.
+pub fn cut_keeps_the_meaning()
+    ensures pieces { PiecesKeepTheMeaning }
+    ensures instances { InstancesKeepTheMeaning }
+{}
