@@ -1,6 +1,10 @@
 pub mod First
 pub mod TypedLaws
 mod Rows
+pub mod ConflictLaws
+pub mod WholeLaws
+pub mod UnmetLaws
+pub mod TypingRows
 pub mod PlaceLaws
 pub mod EntryLaws
 pub mod SlotLaws

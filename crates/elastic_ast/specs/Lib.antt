@@ -7,6 +7,7 @@ pub mod AskedOfNames
 pub mod AskedInExpressions
 pub mod AskedInStatements
 pub mod NamedRegisters
+pub mod Conflicts
 pub mod AskedInLocals
 pub mod ParserLoops
 pub mod Asked
@@ -40,3 +41,4 @@ pub mod Packets
 pub mod WorkedValues
 pub mod WorkedProgram
 pub mod WorkedPackets
+pub mod WorkedTyping
