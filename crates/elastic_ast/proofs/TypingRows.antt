@@ -5,11 +5,12 @@ use Rattle.elastic_ast.specs.declared.rule.Rule.TheVariants.{UnknownName, Twice,
 use Rattle.elastic_ast.specs.declared.statements.Amount.TheVariants as amount
 use Rattle.elastic_ast.specs.declared.statements.Lval.TheVariants as lval
 use Rattle.elastic_ast.specs.Tree.{PlainDecl, PlainExpr, PlainStmt, PlainKeyset, PlainLocal, PlainNext}
-use Rattle.elastic_ast.specs.Typed.{Typed}
+use Rattle.elastic_ast.specs.Typed.{Breaks, Typed}
 use Rattle.elastic_ast.specs.WorkedValues.{bare, wide}
 use Rattle.elastic_ast.specs.WorkedProgram.{x, element, v, dropped, r, assign, byte_field, stmts}
 use Rattle.elastic_ast.specs.WorkedTyping.{frame, byte_and_word, taking_h, doing, with_locals, with_register, sized, parsing, state, goes_to, start, accept, y, named, set_x, sum, shifted, equal, turned, is_valid, over, plain_action, indexed_action, action_of_n, call, read_r, write_r, table_of_v, exact_table, ternary_table, one, at_least_one, constant, hash_below, steps, width_field, BreaksOnly}
-use Rattle.elastic_ast.specs.Demand.{fixed_names}
+use Rattle.elastic_ast.specs.WorkedSources.{count_min_sketch, ternary_table as ternary_table_source, count_headers}
+use Rattle.elastic_ast.specs.Demand.{Known, Constant, fixed_names}
 use Rattle.elastic_ast.specs.LookUps.{std_fields}
 use Rattle.elastic_ast.specs.NamedRegisters.{Naming}
 use Rattle.elastic_ast.specs.ParserLoops.{direct, further}
@@ -251,6 +252,18 @@ pub action_beside_a_table_names_a_register : Typed false (with_register (one ∷
 unfolding broken_rule fixed_names std_fields
 action_beside_a_table_names_a_register = is_typed false _ refl refl
 
+pub sketch : Typed false (count_min_sketch)
+unfolding broken_rule fixed_names std_fields
+sketch = is_typed false _ refl refl
+
+pub entries : Typed false (ternary_table_source)
+unfolding broken_rule fixed_names std_fields
+entries = is_typed false _ refl refl
+
+pub registers : Typed false (count_headers)
+unfolding broken_rule fixed_names std_fields
+registers = is_typed false _ refl refl
+
 pub two_units_name_it : BreaksOnly (with_register [] (read_r ∷ write_r ∷ [])) RegisterTwice 3
 unfolding broken_rule fixed_names std_fields
 two_units_name_it = whole_only _ RegisterTwice 3 _ refl (inl (0, 1, ((false, codes "r" ∷ []), refl, (0, omega arith, refl)), ((false, codes "r" ∷ []), refl, (0, omega arith, refl)), λ e. omega (arith, e))) tt (record { loops = inl refl; twice = inr refl; names = inl refl; main = inl refl })
@@ -306,3 +319,15 @@ headers_and_metadata_alone = is_typed false _ refl refl
 pub whole_frame : Typed false (doing [])
 unfolding broken_rule fixed_names std_fields
 whole_frame = is_typed false _ refl refl
+
+pub set_is_unknown : Breaks false (with_locals (one ∷ exact_table (PlainKeyset.One (named (codes "n"))) ∷ []) []) UnknownName 4
+unfolding broken_rule fixed_names std_fields
+set_is_unknown = (_, refl, inl (Known false, (17, omega arith, refl), refl, refl))
+
+pub set_is_no_constant : Breaks false (with_locals (one ∷ exact_table (PlainKeyset.One (named (codes "n"))) ∷ []) []) NotConst 4
+unfolding broken_rule fixed_names std_fields
+set_is_no_constant = (_, refl, inl (Constant false, (18, omega arith, refl), refl, refl))
+
+pub underscores_are_allowed : Typed true (PlainDecl.Symbol (codes "a__b") ∷ [])
+unfolding broken_rule fixed_names std_fields
+underscores_are_allowed = is_typed true _ refl refl

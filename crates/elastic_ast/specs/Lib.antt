@@ -42,3 +42,5 @@ pub mod WorkedValues
 pub mod WorkedProgram
 pub mod WorkedPackets
 pub mod WorkedTyping
+pub mod WorkedSources
+pub mod Unnested

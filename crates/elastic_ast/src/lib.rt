@@ -29,6 +29,6 @@ pub use meaning_law::{law_of_packets, law_of_statements, law_of_values};
 pub use registers::Registers;
 pub use rule::Rule;
 pub use statements::{Amount, Expr, Lval, RegRef, Stmt};
-pub use typing_examples::{names_are_declared_once_and_known, widths_agree, sizes_and_indices_agree, tables_and_calls_agree, registers_are_named_by_one_unit, parts_belong_together};
+pub use typing_examples::{names_are_declared_once_and_known, widths_agree, sizes_and_indices_agree, tables_and_calls_agree, whole_programs_are_typed, registers_are_named_by_one_unit, parts_belong_together, names_may_break_two_rules};
 pub use vector::Vector;
 pub use vector_law::{law_of_places, law_of_writes};

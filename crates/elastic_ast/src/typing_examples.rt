@@ -6,10 +6,11 @@ ghost use Rattle.elastic_ast.specs.declared.rule.Rule.TheVariants.{UnknownName, 
 ghost use Rattle.elastic_ast.specs.declared.statements.Amount.TheVariants as amount;
 ghost use Rattle.elastic_ast.specs.declared.statements.Lval.TheVariants as lval;
 ghost use Rattle.elastic_ast.specs.Tree.{PlainDecl, PlainExpr, PlainStmt, PlainKeyset, PlainLocal, PlainNext};
-ghost use Rattle.elastic_ast.specs.Typed.{Typed};
+ghost use Rattle.elastic_ast.specs.Typed.{Breaks, Typed};
 ghost use Rattle.elastic_ast.specs.WorkedValues.{bare, wide};
 ghost use Rattle.elastic_ast.specs.WorkedProgram.{x, element, v, dropped, r, assign, byte_field, stmts};
 ghost use Rattle.elastic_ast.specs.WorkedTyping.{frame, byte_and_word, taking_h, doing, with_locals, with_register, sized, parsing, state, goes_to, start, accept, y, named, set_x, sum, shifted, equal, turned, is_valid, over, plain_action, indexed_action, action_of_n, call, read_r, write_r, table_of_v, exact_table, ternary_table, one, at_least_one, constant, hash_below, steps, width_field, BreaksOnly};
+ghost use Rattle.elastic_ast.specs.WorkedSources.{count_min_sketch, ternary_table as ternary_table_source, count_headers};
 
 /// Names: each is declared before it is used, once in its scope, and as what its place asks for.
 pub fn names_are_declared_once_and_known()
@@ -85,6 +86,13 @@ pub fn tables_and_calls_agree()
     ensures action_beside_a_table_names_a_register { Typed false (with_register (one ∷ plain_action (codes "two") (read_r ∷ []) ∷ table_of_v false (codes "one" ∷ []) [] None None ∷ []) (call (codes "two") [] ∷ PlainStmt.Apply (codes "t") ∷ [])) }
 {}
 
+/// Whole programs are typed.
+pub fn whole_programs_are_typed()
+    ensures sketch { Typed false (count_min_sketch) }
+    ensures entries { Typed false (ternary_table_source) }
+    ensures registers { Typed false (count_headers) }
+{}
+
 /// Registers: each is named by one unit, which names no other.
 pub fn registers_are_named_by_one_unit()
     ensures two_units_name_it { BreaksOnly (with_register [] (read_r ∷ write_r ∷ [])) RegisterTwice 3 }
@@ -105,4 +113,11 @@ pub fn parts_belong_together()
     ensures main_is_missing { BreaksOnly (PlainDecl.Headers [] ∷ PlainDecl.Deparser (codes "d") [] ∷ []) NoMain 1 }
     ensures headers_and_metadata_alone { Typed false (PlainDecl.Header (codes "h_t") (byte_field (codes "v") None ∷ []) ∷ PlainDecl.Headers ((codes "h_t", codes "h") ∷ []) ∷ PlainDecl.Meta byte_and_word ∷ []) }
     ensures whole_frame { Typed false (doing []) }
+{}
+
+/// A name in a set that isn't declared breaks two rules, and names with two underscores may be allowed.
+pub fn names_may_break_two_rules()
+    ensures set_is_unknown { Breaks false (with_locals (one ∷ exact_table (PlainKeyset.One (named (codes "n"))) ∷ []) []) UnknownName 4 }
+    ensures set_is_no_constant { Breaks false (with_locals (one ∷ exact_table (PlainKeyset.One (named (codes "n"))) ∷ []) []) NotConst 4 }
+    ensures underscores_are_allowed { Typed true (PlainDecl.Symbol (codes "a__b") ∷ []) }
 {}
