@@ -6,6 +6,8 @@ pub mod WholeLaws
 pub mod UnmetLaws
 pub mod TypingRows
 pub mod TypedFacts
+pub mod TypedNames
+pub mod TypedTables
 pub mod PlaceLaws
 pub mod EntryLaws
 pub mod SlotLaws

@@ -49,14 +49,14 @@ pub typed_own : (allow : Bool) (ds : List PlainDecl) → Typed allow ds → (d :
 typed_own allow ds t d x e =
     (head_met allow (First (is_first (take d ds) x)) (asks_decl (take d ds) x) (parts allow (asks_names (top_names (take d ds)) (top_name x)) (First (is_first (take d ds) x) ∷ asks_decl (take d ds) x) (typed_asks allow ds t d x e)).1).1
 
--- the declaration that a look-up finds
-pub record FoundAt {B : Type 0} (gives : PlainDecl → Option B) (ds : List PlainDecl) (given : B) : Type 0 where
+-- what a look-up finds, and where
+pub record FoundAt {A B : Type 0} (gives : A → Option B) (xs : List A) (given : B) : Type 0 where
   pub number : ℕ
-  pub at : PlainDecl
-  pub here : slice_get ds number ≡ Some at
+  pub at : A
+  pub here : slice_get xs number ≡ Some at
   pub gives_it : gives at ≡ Some given
 
-pub found_at : {B : Type 0} (gives : PlainDecl → Option B) (ds : List PlainDecl) (given : B) → found gives ds ≡ Some given → FoundAt gives ds given
+pub found_at : {A B : Type 0} (gives : A → Option B) (xs : List A) (given : B) → found gives xs ≡ Some given → FoundAt gives xs given
 found_at gives [] given h = cc
 found_at gives (x ∷ xs) given h = by (gives x) refl h (found_at gives xs given)
   where
@@ -109,7 +109,7 @@ control_parts allow ds t d name locals body e =
 pub control_unnested : (allow : Bool) (ds : List PlainDecl) → Typed allow ds → (d : ℕ) (name : Name) (locals : List PlainLocal) (body : PlainStmts) → slice_get ds d ≡ Some (PlainDecl.Control name locals body) → Unnested body false
 control_unnested allow ds t d name locals body e = stmts_unnested allow (top (take d ds)) locals body (control_parts allow ds t d name locals body e).2
 
-if_some : {A : Type 0} (b : Bool) (x y : A) → (if b then Some x else None) ≡ Some y → x ≡ y
+pub if_some : {A : Type 0} (b : Bool) (x y : A) → (if b then Some x else None) ≡ Some y → x ≡ y
 if_some true x y h = cc
 if_some false x y h = cc
 
