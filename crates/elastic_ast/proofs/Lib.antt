@@ -8,6 +8,8 @@ pub mod TypingRows
 pub mod TypedFacts
 pub mod TypedNames
 pub mod TypedTables
+pub mod TypedStays
+pub mod TypedHeaders
 pub mod PlaceLaws
 pub mod EntryLaws
 pub mod SlotLaws
