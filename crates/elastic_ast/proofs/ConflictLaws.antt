@@ -1,14 +1,14 @@
 -- Where the pass over the units finds no conflict, no register is named twice.
-use Rattle.std.proofs.Common.{◌≡◌, ℕ, zero, suc, ◌+◌, ◌<◌, ◌≤◌, ◌⊎◌, inl, inr, Bool, true, false, not, ◌&&◌, ◌||◌, List, [], ◌∷◌, ◌++◌, length, get_or, Option, Some, None, refl, sym, ap, subst, ◌∙◌, true≢false, arith}
-use Rattle.std.specs.Prelude.{if◌then◌else◌, slice_get, Contains, nat_eq}
-use Rattle.std.specs.List.{list_all, list_any}
+use Rattle.std.proofs.Common.{◌≡◌, ℕ, zero, suc, inl, inr, Bool, true, false, not, ◌&&◌, ◌||◌, List, [], ◌∷◌, ◌++◌, Some, None, refl, sym, ap, subst, ◌∙◌, true≢false, arith}
+use Rattle.std.specs.Prelude.{if◌then◌else◌, slice_get, Contains}
+use Rattle.std.specs.List.{list_all}
 use Rattle.std.specs.Cmp.Lexicographic.{same_text, nat_list_eq_equiv}
 use Rattle.std.proofs.lemmas.List.Folds.{list_any-append}
 use Rattle.std.proofs.lemmas.Map.Views.{list_any-from_Contains}
 use Rattle.elastic_ast.specs.Tree.{Name, PlainDecl}
-use Rattle.elastic_ast.specs.Scope.{same, among, or_else}
+use Rattle.elastic_ast.specs.Scope.{same, among}
 use Rattle.elastic_ast.specs.Conflicts.{unit_conflict, conflict}
-use Rattle.elastic_ast.specs.NamedRegisters.{Naming, named_registers, UnitNames, IsLooped, is_array, NamedTwice}
+use Rattle.elastic_ast.specs.NamedRegisters.{Naming, named_registers, is_array, NamedTwice}
 use Rattle.elastic_ast.proofs.TypedLaws.{none_both}
 
 -- what a unit without conflict has
@@ -48,7 +48,7 @@ clean array before looped (n ∷ ns) h =
     record {
       one = λ q r c d. all_same n q ns p.0 c ∙ sym (all_same n r ns p.0 d);
       new = λ r c. ap (among before) (all_same n r ns p.0 c) ∙ p.1;
-      arrayed = λ r c l. ap array (all_same n r ns p.0 c) ∙ p.2 l
+      arrayed = λ r c l. ap array (all_same n r ns p.0 c) ∙ p.2 l;
     }
 
 among_in : (ns : List Name) (r : Name) → Contains ns r → among ns r ≡ true

@@ -1,18 +1,18 @@
 -- What a typed program has: its demands are met, and what follows for its loops, tables, headers, names and widths.
-use Rattle.std.proofs.Common.{◌≡◌, ℕ, zero, suc, ◌+◌, ◌<◌, ◌≤◌, ◌⊎◌, inl, inr, Bool, true, false, not, ◌&&◌, ◌||◌, List, [], ◌∷◌, ◌++◌, map, take, length, get_or, Option, Some, None, refl, sym, ap, subst, ◌∙◌, true≢false, arith}
-use Rattle.std.specs.Prelude.{if◌then◌else◌, flat_map, slice_get, Contains, is_some, is_none, option_map, option_and_then, unwrap_or, nat_le}
+use Rattle.std.proofs.Common.{◌≡◌, ℕ, suc, ◌≤◌, inl, Bool, true, false, ◌&&◌, List, [], ◌∷◌, ◌++◌, map, take, Option, Some, None, refl, sym, ap, ◌∙◌, true≢false, arith}
+use Rattle.std.specs.Prelude.{if◌then◌else◌, slice_get, Contains, is_some, is_none, option_and_then, unwrap_or, nat_le}
+use Rattle.std.proofs.lemmas.Bool.Decides.{nat_tests}
 use Rattle.elastic_ast.specs.declared.rule.Rule.{Rule}
-use Rattle.elastic_ast.specs.declared.declarations.Field.{Field}
-use Rattle.elastic_ast.specs.Tree.{Name, PlainDecl, PlainExpr, PlainStmt, PlainStmts, PlainAction, PlainLocal, PlainTable, PlainEntry}
-use Rattle.elastic_ast.specs.Scope.{same, among, or_else, found, is_symbol, Scope, top}
-use Rattle.elastic_ast.specs.Demand.{Demand, Known, Alone, Wide, Fresh, Plain, First, met, rule_of, first_broken, fixed_names}
+use Rattle.elastic_ast.specs.Tree.{Name, PlainDecl, PlainStmt, PlainStmts, PlainLocal}
+use Rattle.elastic_ast.specs.Scope.{same, or_else, found, is_symbol, Scope, top}
+use Rattle.elastic_ast.specs.Demand.{Demand, Known, Alone, First, met, rule_of, first_broken}
 use Rattle.elastic_ast.specs.Parts.{Main, main_in, control_in, body_of}
 use Rattle.elastic_ast.specs.AskedOfNames.{asks_names, top_name, top_names}
 use Rattle.elastic_ast.specs.AskedInExpressions.{asks_truth}
 use Rattle.elastic_ast.specs.AskedInStatements.{asks_loop, in_loop, asks_stmt, asks_stmts}
 use Rattle.elastic_ast.specs.AskedInLocals.{asks_locals, local_name}
 use Rattle.elastic_ast.specs.Asked.{asks_structs, asks_decl, is_first, asked}
-use Rattle.elastic_ast.specs.Typed.{Breaks, Typed}
+use Rattle.elastic_ast.specs.Typed.{Typed}
 use Rattle.elastic_ast.specs.Unnested.{UnnestedStmt, Unnested}
 use Rattle.elastic_ast.proofs.First.{first-append}
 use Rattle.elastic_ast.proofs.TypedLaws.{none_both}
@@ -48,6 +48,21 @@ head_met allow q qs h = if_met (met allow q) (rule_of q) (first_broken allow qs)
 pub typed_own : (allow : Bool) (ds : List PlainDecl) → Typed allow ds → (d : ℕ) (x : PlainDecl) → slice_get ds d ≡ Some x → first_broken allow (asks_decl (take d ds) x) ≡ None
 typed_own allow ds t d x e =
     (head_met allow (First (is_first (take d ds) x)) (asks_decl (take d ds) x) (parts allow (asks_names (top_names (take d ds)) (top_name x)) (First (is_first (take d ds) x) ∷ asks_decl (take d ds) x) (typed_asks allow ds t d x e)).1).1
+
+-- a width that is asked for is one
+and_left : (a b : Bool) → (a && b) ≡ true → a ≡ true
+and_left true b h = refl
+and_left false b h = cc
+
+and_right : (a b : Bool) → (a && b) ≡ true → b ≡ true
+and_right true b h = h
+and_right false b h = cc
+
+pub wide_is : (width : ℕ) → (nat_le 1 width && nat_le width 128) ≡ true → (1 ≤ width) × (width ≤ 128)
+wide_is width h =
+    let a : nat_le 1 width ≡ true = and_left (nat_le 1 width) (nat_le width 128) h in
+    let b : nat_le width 128 ≡ true = and_right (nat_le 1 width) (nat_le width 128) h in
+    (grind (arith, nat_tests), grind (arith, nat_tests))
 
 -- what a look-up finds, and where
 pub record FoundAt {A B : Type 0} (gives : A → Option B) (xs : List A) (given : B) : Type 0 where

@@ -1,20 +1,20 @@
 -- The headers, the metadata and the parser of a typed program: names differ, widths are widths, and what is extracted or
 -- emitted is a header.
-use Rattle.std.proofs.Common.{◌≡◌, ℕ, zero, suc, ◌+◌, ◌<◌, ◌≤◌, ◌⊎◌, inl, inr, Bool, true, false, ◌&&◌, List, [], ◌∷◌, ◌++◌, map, take, drop, length, get_or, Option, Some, None, refl, sym, ap, subst, ◌∙◌, true≢false, arith}
-use Rattle.std.specs.Prelude.{if◌then◌else◌, flat_map, slice_get, Contains, is_some, option_map, option_and_then, unwrap_or, find, nat_le, ◌%◌, ◌==◌, codes}
-use Rattle.std.proofs.lemmas.Bool.Decides.{nat_tests}
+use Rattle.std.proofs.Common.{◌≡◌, ℕ, zero, suc, ◌≤◌, inr, Bool, true, List, [], ◌∷◌, ◌++◌, map, take, drop, Option, Some, None, refl, sym, ap, subst, ◌∙◌, arith}
+use Rattle.std.specs.Prelude.{flat_map, slice_get, Contains, option_map, option_and_then, unwrap_or, find, nat_lt, ◌^◌, ◌%◌, ◌==◌}
 use Rattle.elastic_ast.specs.declared.declarations.Field.{Field}
 use Rattle.elastic_ast.specs.declared.rule.Rule.TheVariants.{ParserLoop}
 use Rattle.elastic_ast.specs.Tree.{Name, PlainDecl, PlainState}
-use Rattle.elastic_ast.specs.Scope.{same, among, or_else, found}
-use Rattle.elastic_ast.specs.LookUps.{members_in, members_of, member_name, is_member, header_type_in, fields_of_type, header_fields, header_bits, meta_in, meta_fields, has_headers, register_in, register_width}
+use Rattle.elastic_ast.specs.Scope.{same, found}
+use Rattle.elastic_ast.specs.LookUps.{constant_in, constant_of, members_in, members_of, member_name, is_member, header_type_in, fields_of_type, header_fields, header_bits, meta_in, meta_fields, has_headers, register_in, register_width}
+use Rattle.elastic_ast.specs.Types.{Bits}
 use Rattle.elastic_ast.specs.Parts.{Main, main_in, parser_in, states_of, deparser_in, emits_of}
-use Rattle.elastic_ast.specs.ParserLoops.{state_names, Leads, Loops}
-use Rattle.elastic_ast.specs.Demand.{Demand, Known, Wide, Bytes, met, first_broken}
+use Rattle.elastic_ast.specs.ParserLoops.{state_names, Loops}
+use Rattle.elastic_ast.specs.Demand.{Known, Wide, Fits, Bytes, first_broken}
 use Rattle.elastic_ast.specs.AskedOfNames.{asks_names, asks_symbol, asks_amount}
-use Rattle.elastic_ast.specs.Asked.{field_name, asks_field, asks_width, asks_member, asks_named_header, asks_next, asks_state, asks_structs}
-use Rattle.elastic_ast.specs.Typed.{Breaks, Typed}
-use Rattle.elastic_ast.proofs.TypedFacts.{parts, head_met, typed_own, if_some, FoundAt, found_at}
+use Rattle.elastic_ast.specs.Asked.{field_name, asks_decl, asks_field, asks_width, asks_member, asks_named_header, asks_next, asks_state, asks_structs}
+use Rattle.elastic_ast.specs.Typed.{Typed}
+use Rattle.elastic_ast.proofs.TypedFacts.{wide_is, parts, head_met, typed_own, if_some, FoundAt, found_at}
 use Rattle.elastic_ast.proofs.TypedNames.{Distinct, names_distinct}
 use Rattle.elastic_ast.proofs.TypedTables.{item_met}
 use Rattle.elastic_ast.proofs.TypedStays.{member_stays}
@@ -22,20 +22,6 @@ use Rattle.elastic_ast.proofs.TypedStays.{member_stays}
 -- each field has a width from 1 to 128
 abbrev pub AreWide : List Field → Type 0
 AreWide fields = (field : Field) → Contains fields field → (1 ≤ field.width) × (field.width ≤ 128)
-
-and_left : (a b : Bool) → (a && b) ≡ true → a ≡ true
-and_left true b h = refl
-and_left false b h = cc
-
-and_right : (a b : Bool) → (a && b) ≡ true → b ≡ true
-and_right true b h = h
-and_right false b h = cc
-
-pub wide_is : (width : ℕ) → (nat_le 1 width && nat_le width 128) ≡ true → (1 ≤ width) × (width ≤ 128)
-wide_is width h =
-    let a : nat_le 1 width ≡ true = and_left (nat_le 1 width) (nat_le width 128) h in
-    let b : nat_le width 128 ≡ true = and_right (nat_le 1 width) (nat_le width 128) h in
-    (grind (arith, nat_tests), grind (arith, nat_tests))
 
 none_distinct : Distinct []
 none_distinct i j n e f = cc
@@ -142,32 +128,62 @@ meta_good allow ds t = by (found meta_in ds) refl
     by (Some fields) e =
         let f : FoundAt meta_in ds fields = found_at meta_in ds fields e in
         let own = typed_own allow ds t f.number (PlainDecl.Meta fields) (f.here ∙ ap Some (meta_given f.at fields f.gives_it)) in
-        let p = parts allow (asks_names [] (map field_name fields)) (flat_map (asks_field (take f.number ds)) fields) own in
-        (names_distinct allow [] (map field_name fields) p.0,
-        λ field c. wide_is field.width (head_met allow (Wide field.width) (asks_symbol (take f.number ds) field.size) (item_met allow (asks_field (take f.number ds)) fields p.1 field c)).0)
+        let p = parts allow (asks_names [] (map field_name fields)) (flat_map (asks_field (take f.number ds)) fields) own in (
+          names_distinct allow [] (map field_name fields) p.0,
+          λ field c. wide_is field.width (head_met allow (Wide field.width) (asks_symbol (take f.number ds) field.size) (item_met allow (asks_field (take f.number ds)) fields p.1 field c)).0,
+        )
 
 -- the cells of a register
-register_given : (name : Name) (x : PlainDecl) (width : ℕ) → register_in name x ≡ Some width → (r : PlainDecl) × (rest : List Demand) × (x ≡ r) × ((allow : Bool) (before : List PlainDecl) → first_broken allow (Rattle.elastic_ast.specs.Asked.asks_decl before r) ≡ None → (1 ≤ width) × (width ≤ 128))
-register_given name (PlainDecl.Register register other cells size) width h =
-    (PlainDecl.Register register other cells size, [], refl, λ allow before k. subst (λ z. (1 ≤ z) × (z ≤ 128)) (if_some (same name register) other width h) (wide_is other (head_met allow (Wide other) (asks_amount before cells ++ asks_symbol before size) k).0))
-register_given name (PlainDecl.Include n) width h = cc
-register_given name (PlainDecl.Symbol n) width h = cc
-register_given name (PlainDecl.Assume cs) width h = cc
-register_given name (PlainDecl.Maximize ts) width h = cc
-register_given name (PlainDecl.Const n w v) width h = cc
-register_given name (PlainDecl.Header n fs) width h = cc
-register_given name (PlainDecl.Headers ms) width h = cc
-register_given name (PlainDecl.Meta fs) width h = cc
-register_given name (PlainDecl.Parser n ss) width h = cc
-register_given name (PlainDecl.Control n ls b) width h = cc
-register_given name (PlainDecl.Deparser n es) width h = cc
-register_given name (PlainDecl.Main p c d) width h = cc
+register_given : (name : Name) (x : PlainDecl) (width : ℕ) → register_in name x ≡ Some width → (allow : Bool) (before : List PlainDecl) → first_broken allow (asks_decl before x) ≡ None → (1 ≤ width) × (width ≤ 128)
+register_given name (PlainDecl.Register register other cells size) width h allow before k =
+    subst (λ z. (1 ≤ z) × (z ≤ 128)) (if_some (same name register) other width h) (wide_is other (head_met allow (Wide other) (asks_amount before cells ++ asks_symbol before size) k).0)
+register_given name (PlainDecl.Include n) width h allow before k = cc
+register_given name (PlainDecl.Symbol n) width h allow before k = cc
+register_given name (PlainDecl.Assume cs) width h allow before k = cc
+register_given name (PlainDecl.Maximize ts) width h allow before k = cc
+register_given name (PlainDecl.Const n w v) width h allow before k = cc
+register_given name (PlainDecl.Header n fs) width h allow before k = cc
+register_given name (PlainDecl.Headers ms) width h allow before k = cc
+register_given name (PlainDecl.Meta fs) width h allow before k = cc
+register_given name (PlainDecl.Parser n ss) width h allow before k = cc
+register_given name (PlainDecl.Control n ls b) width h allow before k = cc
+register_given name (PlainDecl.Deparser n es) width h allow before k = cc
+register_given name (PlainDecl.Main p c d) width h allow before k = cc
 
 pub register_wide : (allow : Bool) (ds : List PlainDecl) → Typed allow ds → (name : Name) (width : ℕ) → register_width ds name ≡ Some width → (1 ≤ width) × (width ≤ 128)
 register_wide allow ds t name width h =
     let f : FoundAt (register_in name) ds width = found_at (register_in name) ds width h in
-    let g = register_given name f.at width f.gives_it in
-    g.3 allow (take f.number ds) (typed_own allow ds t f.number g.0 (f.here ∙ ap Some g.2))
+    register_given name f.at width f.gives_it allow (take f.number ds) (typed_own allow ds t f.number f.at f.here)
+
+-- a constant is below 2 to its width
+abbrev IsConstant : ℕ × ℕ → Type 0
+IsConstant constant = (1 ≤ constant.0) × (constant.0 ≤ 128) × (nat_lt constant.1 (2 ^ constant.0) ≡ true)
+
+constant_given : (name : Name) (x : PlainDecl) (constant : ℕ × ℕ) → constant_in name x ≡ Some constant → (allow : Bool) (before : List PlainDecl) → first_broken allow (asks_decl before x) ≡ None → IsConstant constant
+constant_given name (PlainDecl.Const other width value) constant h allow before k =
+    let p = head_met allow (Wide width) (Fits value (Bits width) ∷ []) k in
+    let w = wide_is width p.0 in
+    let own : ℕ × ℕ = (width, value) in
+    let e : own ≡ constant = if_some (same name other) own constant h in
+    subst IsConstant e (w.0, w.1, (head_met allow (Fits value (Bits width)) [] p.1).0)
+constant_given name (PlainDecl.Include n) constant h allow before k = cc
+constant_given name (PlainDecl.Symbol n) constant h allow before k = cc
+constant_given name (PlainDecl.Assume cs) constant h allow before k = cc
+constant_given name (PlainDecl.Maximize ts) constant h allow before k = cc
+constant_given name (PlainDecl.Header n fs) constant h allow before k = cc
+constant_given name (PlainDecl.Headers ms) constant h allow before k = cc
+constant_given name (PlainDecl.Meta fs) constant h allow before k = cc
+constant_given name (PlainDecl.Register n w c s) constant h allow before k = cc
+constant_given name (PlainDecl.Parser n ss) constant h allow before k = cc
+constant_given name (PlainDecl.Control n ls b) constant h allow before k = cc
+constant_given name (PlainDecl.Deparser n es) constant h allow before k = cc
+constant_given name (PlainDecl.Main p c d) constant h allow before k = cc
+
+pub constant_fits : (allow : Bool) (ds : List PlainDecl) → Typed allow ds → (name : Name) (constant : ℕ × ℕ) → constant_of ds name ≡ Some constant
+    → (1 ≤ constant.0) × (constant.0 ≤ 128) × (nat_lt constant.1 (2 ^ constant.0) ≡ true)
+constant_fits allow ds t name constant h =
+    let f : FoundAt (constant_in name) ds constant = found_at (constant_in name) ds constant h in
+    constant_given name f.at constant f.gives_it allow (take f.number ds) (typed_own allow ds t f.number f.at f.here)
 
 -- the parser that `main` names
 parser_given : (name : Name) (x : PlainDecl) (states : List PlainState) → parser_in name x ≡ Some states → (parser : Name) × (x ≡ PlainDecl.Parser parser states)

@@ -1,13 +1,12 @@
 -- The names of one scope of a typed program: no two are the same, and none is a fixed one.
-use Rattle.std.proofs.Common.{◌≡◌, ℕ, zero, suc, ◌+◌, ◌<◌, Bool, true, false, not, ◌&&◌, ◌||◌, List, [], ◌∷◌, ◌++◌, map, length, get_or, Option, Some, None, refl, sym, ap, subst, ◌∙◌, true≢false, arith, append_assoc}
-use Rattle.std.specs.Prelude.{slice_get, Contains}
-use Rattle.std.specs.List.{list_any}
-use Rattle.std.specs.Cmp.Lexicographic.{same_text, nat_list_eq_equiv}
+use Rattle.std.proofs.Common.{◌≡◌, ℕ, zero, suc, Bool, true, false, not, ◌&&◌, ◌||◌, List, [], ◌∷◌, ◌++◌, Some, None, refl, sym, ap, ◌∙◌, true≢false, arith}
+use Rattle.std.specs.Prelude.{slice_get}
+use Rattle.std.specs.Cmp.Lexicographic.{nat_list_eq_equiv}
 use Rattle.std.proofs.lemmas.List.Folds.{list_any-append}
 use Rattle.std.proofs.lemmas.Map.Views.{list_any-from_Contains}
 use Rattle.elastic_ast.specs.Tree.{Name}
 use Rattle.elastic_ast.specs.Scope.{same, among}
-use Rattle.elastic_ast.specs.Demand.{Demand, Fresh, Plain, met, rule_of, first_broken, fixed_names}
+use Rattle.elastic_ast.specs.Demand.{Fresh, Plain, first_broken, fixed_names}
 use Rattle.elastic_ast.specs.AskedOfNames.{asks_names}
 use Rattle.elastic_ast.proofs.TypedFacts.{head_met}
 
@@ -54,9 +53,10 @@ pub names_new : (allow : Bool) (before names : List Name) → first_broken allow
 names_new allow before [] h i n e = cc
 names_new allow before (m ∷ ms) h zero n e =
     let s : m ≡ n = cc in
-    let first : (not (among before m) && not (among fixed_names m)) ≡ true = (head_met allow (Fresh before m) (Plain m ∷ asks_names (before ++ m ∷ []) ms) h).0 in
-    (ap (among before) (sym s) ∙ un (among before m) (and_left (not (among before m)) (not (among fixed_names m)) first),
-    ap (among fixed_names) (sym s) ∙ un (among fixed_names m) (and_right (not (among before m)) (not (among fixed_names m)) first))
+    let first : (not (among before m) && not (among fixed_names m)) ≡ true = (head_met allow (Fresh before m) (Plain m ∷ asks_names (before ++ m ∷ []) ms) h).0 in (
+      ap (among before) (sym s) ∙ un (among before m) (and_left (not (among before m)) (not (among fixed_names m)) first),
+      ap (among fixed_names) (sym s) ∙ un (among fixed_names m) (and_right (not (among before m)) (not (among fixed_names m)) first),
+    )
 names_new allow before (m ∷ ms) h (suc j) n e =
     let p = names_new allow (before ++ m ∷ []) ms (later allow before m ms h) j n e in
     (front (among before n) (among (m ∷ []) n) (sym (list_any-append (same n) before (m ∷ [])) ∙ p.0), p.1)

@@ -1,7 +1,6 @@
 -- A typed expression keeps its type where more declarations are in scope.
-use Rattle.std.proofs.Common.{◌≡◌, ℕ, zero, suc, Bool, true, false, List, [], ◌∷◌, ◌++◌, map, take, Option, Some, None, refl, sym, ap, subst, ◌∙◌, true≢false}
-use Rattle.std.specs.Prelude.{if◌then◌else◌, is_some, option_map, unwrap_or, find, slice_get}
-use Rattle.elastic_ast.specs.declared.rule.Rule.{Rule}
+use Rattle.std.proofs.Common.{◌≡◌, ℕ, Bool, true, false, List, [], ◌∷◌, ◌++◌, map, Option, Some, None, refl, sym, ap, ◌∙◌, true≢false}
+use Rattle.std.specs.Prelude.{if◌then◌else◌, is_some, option_map, unwrap_or, find}
 use Rattle.elastic_ast.specs.declared.statements.Lval.{Lval}
 use Rattle.elastic_ast.specs.declared.statements.Lval.TheVariants as lval
 use Rattle.elastic_ast.specs.declared.declarations.Field.{Field}
@@ -9,8 +8,8 @@ use Rattle.elastic_ast.specs.Tree.{Name, PlainDecl, PlainExpr}
 use Rattle.elastic_ast.specs.Scope.{same, among, or_else, found, Scope, is_index}
 use Rattle.elastic_ast.specs.LookUps.{constant_in, constant_of, header_type_in, members_in, members_of, member_name, is_member, fields_of_type, header_fields, meta_in, meta_fields, meta_field, width_among}
 use Rattle.elastic_ast.specs.Operators.{operator_of, sort_of}
-use Rattle.elastic_ast.specs.Types.{Ty, Bits, Bare, of_width, outcome, left_giver, right_giver, turned_type, lval_type, param_width, constant_width, named_type, type_of}
-use Rattle.elastic_ast.specs.Demand.{Demand, Known, Indexed, met, rule_of, first_broken}
+use Rattle.elastic_ast.specs.Types.{Ty, of_width, outcome, left_giver, right_giver, turned_type, lval_type, param_width, constant_width, named_type, type_of}
+use Rattle.elastic_ast.specs.Demand.{Known, Indexed, first_broken}
 use Rattle.elastic_ast.specs.AskedInExpressions.{names_at, asks_index, asks_element, asks_lval, asks_named, turned_giver, asks_turned, asks_sort, asks_expr}
 use Rattle.elastic_ast.proofs.TypedFacts.{parts, head_met}
 

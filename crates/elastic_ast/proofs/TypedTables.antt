@@ -1,16 +1,17 @@
 -- The tables of a typed program: each entry and the default run an action that the table lists, and those are declared.
-use Rattle.std.proofs.Common.{◌≡◌, ℕ, zero, suc, ◌+◌, ◌<◌, Bool, true, false, List, [], ◌∷◌, ◌++◌, map, take, length, get_or, Option, Some, None, refl, sym, ap, subst, ◌∙◌, true≢false, arith, append_assoc}
-use Rattle.std.specs.Prelude.{if◌then◌else◌, flat_map, slice_get, Contains, is_none, ◌==◌}
+use Rattle.std.proofs.Common.{◌≡◌, ℕ, zero, suc, ◌≤◌, Bool, true, false, List, [], ◌∷◌, ◌++◌, map, take, length, Option, Some, None, refl, sym, ap, subst, ◌∙◌, true≢false, arith, append_assoc}
+use Rattle.std.specs.Prelude.{if◌then◌else◌, flat_map, slice_get, Contains}
 use Rattle.std.specs.Cmp.Lexicographic.{same_text}
+use Rattle.elastic_ast.specs.declared.declarations.Param.{Param}
 use Rattle.elastic_ast.specs.Tree.{Name, PlainDecl, PlainExpr, PlainStmts, PlainAction, PlainLocal, PlainTable, PlainEntry}
 use Rattle.elastic_ast.specs.Scope.{same, among, or_else, found}
 use Rattle.elastic_ast.specs.LookUps.{locals_in, locals_of, action_in, action_of, table_in, table_of}
-use Rattle.elastic_ast.specs.Demand.{Demand, Known, Listed, Called, NoRegister, Keyed, met, rule_of, first_broken, fixed_names}
-use Rattle.elastic_ast.specs.NamedRegisters.{body_registers}
-use Rattle.elastic_ast.specs.AskedInStatements.{no_action_name, action_among}
-use Rattle.elastic_ast.specs.AskedInLocals.{local_name, asks_key, asks_listed, asks_size, asks_sets, asks_run, asks_entry, asks_fallback, asks_table, asks_local, asks_locals}
+use Rattle.elastic_ast.specs.Demand.{Demand, Wide, Listed, first_broken, fixed_names}
+use Rattle.elastic_ast.specs.AskedOfNames.{asks_names}
+use Rattle.elastic_ast.specs.AskedInStatements.{no_action_name, asks_stmts}
+use Rattle.elastic_ast.specs.AskedInLocals.{option_names, param_name, asks_param, in_action, asks_action, local_name, asks_key, asks_listed, asks_size, asks_sets, asks_run, asks_entry, asks_fallback, asks_table, asks_local, asks_locals}
 use Rattle.elastic_ast.specs.Typed.{Typed}
-use Rattle.elastic_ast.proofs.TypedFacts.{parts, head_met, if_some, FoundAt, found_at, control_parts}
+use Rattle.elastic_ast.proofs.TypedFacts.{wide_is, parts, head_met, if_some, FoundAt, found_at, control_parts}
 use Rattle.elastic_ast.proofs.TypedNames.{names_new}
 
 -- what each item of a list asks is met
@@ -125,6 +126,36 @@ fallback_listed allow ds t name table h run e =
     let a : TableAsks allow table = table_asks allow ds t name table h in
     let f : first_broken allow (asks_fallback a.before a.locals table (Some run)) ≡ None = subst (λ z. first_broken allow (asks_fallback a.before a.locals table z) ≡ None) e (table_parts allow a.before a.locals table a.fine).3 in
     (head_met allow (Listed (among (no_action_name ∷ table.actions) run.0)) (asks_run a.before a.locals run.0 run.1) f).0
+
+-- an action of a typed program, and what it asks after some declarations
+action_is : (name : Name) (x : PlainLocal) (action : PlainAction) → action_in name x ≡ Some action → x ≡ PlainLocal.OfAction action
+action_is name (PlainLocal.OfAction other) action h = ap PlainLocal.OfAction (if_some (same name other.name) other action h)
+action_is name (PlainLocal.OfTable table) action h = cc
+
+pub record ActionAsks (allow : Bool) (action : PlainAction) : Type 0 where
+  pub before : List PlainDecl
+  pub body : PlainStmts
+  pub fine : first_broken allow (asks_action before body action) ≡ None
+
+pub action_asks : (allow : Bool) (ds : List PlainDecl) → Typed allow ds → (name : Name) (action : PlainAction) → action_of ds name ≡ Some action → ActionAsks allow action
+action_asks allow ds t name action h =
+    let l : LocalAt (action_in name) ds action = local_at (action_in name) ds action h in
+    let p = control_parts allow ds t l.number l.control l.locals l.body l.here in
+    record {
+      before = take l.number ds;
+      body = l.body;
+      fine = local_asks allow (take l.number ds) l.body [] l.locals p.1 l.local.number (PlainLocal.OfAction action) (l.local.here ∙ ap Some (action_is name l.local.at action l.local.gives_it));
+    }
+
+-- its parameters have widths
+pub param_wide : (allow : Bool) (ds : List PlainDecl) → Typed allow ds → (name : Name) (action : PlainAction) → action_of ds name ≡ Some action → (param : Param) → Contains action.params param → (1 ≤ param.width) × (param.width ≤ 128)
+param_wide allow ds t name action h param c =
+    let a : ActionAsks allow action = action_asks allow ds t name action h in
+    let names = asks_names [] (option_names action.index ++ map param_name action.params) in
+    let stmts = asks_stmts (in_action a.before a.body action) [] action.body in
+    let p = parts allow names (flat_map asks_param action.params ++ stmts) a.fine in
+    let q = parts allow (flat_map asks_param action.params) stmts p.1 in
+    wide_is param.width (head_met allow (Wide param.width) [] (item_met allow asks_param action.params q.0 param c)).0
 
 -- no control declares an action `NoAction`
 action_given : (name : Name) (x : PlainLocal) (action : PlainAction) → action_in name x ≡ Some action → same name (local_name x) ≡ true

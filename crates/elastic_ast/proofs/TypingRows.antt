@@ -1,5 +1,5 @@
 -- Worked rows of the rules of types: small programs that break one rule alone, and typed ones.
-use Rattle.std.proofs.Common.{◌≡◌, ◌⊎◌, inl, inr, ℕ, true, false, List, [], ◌∷◌, Option, Some, None, refl, arith}
+use Rattle.std.proofs.Common.{◌≡◌, inl, inr, ℕ, true, false, [], ◌∷◌, Some, None, refl, arith}
 use Rattle.std.specs.Prelude.{codes, slice_get}
 use Rattle.elastic_ast.specs.declared.rule.Rule.TheVariants.{UnknownName, Twice, Width, NoWidth, LiteralTooWide, NotBool, NotConst, BadIndex, BadAmount, BadTerm, BadSlice, OddHeader, NestedLoop, RegisterTwice, RegisterUnused, RegisterInTable, BadKey, BadEntries, BadCall, ParserLoop, ReservedName, NoMain}
 use Rattle.elastic_ast.specs.declared.statements.Amount.TheVariants as amount

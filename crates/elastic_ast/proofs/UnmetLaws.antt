@@ -1,11 +1,11 @@
 -- All demands of a program that aren't met: a program breaks one rule alone where all of these are of the rule.
-use Rattle.std.proofs.Common.{◌≡◌, ℕ, zero, suc, ◌+◌, ◌<◌, ◌⊎◌, inl, inr, Bool, true, false, List, [], ◌∷◌, ◌++◌, take, length, get_or, Option, Some, None, refl, sym, ap, subst, ◌∙◌, true≢false, arith, append_assoc}
+use Rattle.std.proofs.Common.{◌≡◌, ℕ, zero, suc, inl, inr, Bool, true, false, List, [], ◌∷◌, ◌++◌, take, Some, None, refl, sym, ap, subst, ◌∙◌, true≢false, arith, append_assoc}
 use Rattle.std.specs.Prelude.{if◌then◌else◌, slice_get, Contains}
 use Rattle.elastic_ast.specs.declared.rule.Rule.{Rule}
 use Rattle.elastic_ast.specs.Tree.{PlainDecl}
 use Rattle.elastic_ast.specs.Demand.{Demand, met, rule_of}
 use Rattle.elastic_ast.specs.Asked.{asked}
-use Rattle.elastic_ast.specs.Typed.{AsksTooMuch, BreaksWhole, Breaks, Typed, broken_rule, first_of}
+use Rattle.elastic_ast.specs.Typed.{BreaksWhole, Breaks, Typed, broken_rule, first_of}
 use Rattle.elastic_ast.specs.WorkedTyping.{BreaksOnly}
 use Rattle.elastic_ast.proofs.TypedLaws.{walk_names, walk_passes}
 use Rattle.elastic_ast.proofs.WholeLaws.{WholeBut, whole_but, whole_is_met, whole_met, meets_whole}

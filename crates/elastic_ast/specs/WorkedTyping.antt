@@ -1,19 +1,16 @@
 -- Small programs that break one rule of types alone, and typed ones that look as if they broke it; this project's own.
 use Rattle.std.specs.Prelude.{◌≡◌, ℕ, Bool, true, false, List, [], ◌∷◌, ◌++◌, map, option_map, Option, Some, None, codes}
 use Rattle.elastic_ast.specs.declared.rule.Rule.{Rule}
-use Rattle.elastic_ast.specs.declared.statements.Amount.{Amount}
 use Rattle.elastic_ast.specs.declared.statements.Amount.TheVariants as amount
 use Rattle.elastic_ast.specs.declared.statements.Lval.{Lval}
 use Rattle.elastic_ast.specs.declared.statements.Lval.TheVariants as lval
-use Rattle.elastic_ast.specs.declared.statements.RegRef.{RegRef}
 use Rattle.elastic_ast.specs.declared.declarations.Field.{Field}
-use Rattle.elastic_ast.specs.declared.declarations.LinTerm.{LinTerm}
 use Rattle.elastic_ast.specs.declared.declarations.Rel.TheVariants.{Ge}
 use Rattle.elastic_ast.specs.declared.declarations.UtilTerm.TheVariants.{Steps}
-use Rattle.elastic_ast.specs.Tree.{Name, PlainDecl, PlainExpr, PlainStmt, PlainKeyset, PlainEntry, PlainAction, PlainTable, PlainLocal, PlainNext, PlainState}
+use Rattle.elastic_ast.specs.Tree.{Name, PlainDecl, PlainExpr, PlainStmt, PlainKeyset, PlainEntry, PlainLocal, PlainNext, PlainState}
 use Rattle.elastic_ast.specs.Typed.{Breaks}
-use Rattle.elastic_ast.specs.WorkedValues.{bare, wide}
-use Rattle.elastic_ast.specs.WorkedProgram.{stmts, x, element, v, dropped, r, assign, byte_field}
+use Rattle.elastic_ast.specs.WorkedValues.{bare}
+use Rattle.elastic_ast.specs.WorkedProgram.{stmts, x, v, r, assign, byte_field}
 
 -- the declaration with this number breaks the rule, and whatever the program breaks is this rule
 abbrev pub BreaksOnly : List PlainDecl → Rule → ℕ → Type 0

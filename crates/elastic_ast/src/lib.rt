@@ -12,6 +12,7 @@ mod slot;
 mod spot;
 mod statements;
 mod typing_examples;
+mod typing_law;
 mod vector;
 mod vector_law;
 
@@ -29,6 +30,13 @@ pub use meaning_law::{law_of_packets, law_of_statements, law_of_values};
 pub use registers::Registers;
 pub use rule::Rule;
 pub use statements::{Amount, Expr, Lval, RegRef, Stmt};
-pub use typing_examples::{names_are_declared_once_and_known, widths_agree, sizes_and_indices_agree, tables_and_calls_agree, whole_programs_are_typed, registers_are_named_by_one_unit, parts_belong_together, names_may_break_two_rules};
+pub use typing_examples::{
+    names_are_declared_once_and_known, names_may_break_two_rules, parts_belong_together,
+    registers_are_named_by_one_unit, sizes_and_indices_agree, tables_and_calls_agree,
+    whole_programs_are_typed, widths_agree,
+};
+pub use typing_law::{
+    loops_do_not_nest, parsers_end_and_headers_are_declared, tables_run_what_they_list,
+};
 pub use vector::Vector;
 pub use vector_law::{law_of_places, law_of_writes};
