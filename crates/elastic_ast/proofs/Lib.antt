@@ -5,6 +5,7 @@ pub mod ConflictLaws
 pub mod WholeLaws
 pub mod UnmetLaws
 pub mod TypingRows
+pub mod TypingDetails
 pub mod TypedFacts
 pub mod TypedNames
 pub mod TypedTables

@@ -11,6 +11,7 @@ mod rule;
 mod slot;
 mod spot;
 mod statements;
+mod typing_details;
 mod typing_examples;
 mod typing_law;
 mod vector;
@@ -30,6 +31,7 @@ pub use meaning_law::{law_of_packets, law_of_statements, law_of_values};
 pub use registers::Registers;
 pub use rule::Rule;
 pub use statements::{Amount, Expr, Lval, RegRef, Stmt};
+pub use typing_details::{names_in_detail, sizes_in_detail, tables_in_detail, values_in_detail};
 pub use typing_examples::{
     names_are_declared_once_and_known, names_may_break_two_rules, parts_belong_together,
     registers_are_named_by_one_unit, sizes_and_indices_agree, tables_and_calls_agree,
