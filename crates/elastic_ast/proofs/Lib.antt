@@ -1,6 +1,16 @@
 pub mod First
 pub mod TypedLaws
 mod Rows
+pub mod ConflictLaws
+pub mod WholeLaws
+pub mod UnmetLaws
+pub mod TypingRows
+pub mod TypingDetails
+pub mod TypedFacts
+pub mod TypedNames
+pub mod TypedTables
+pub mod TypedStays
+pub mod TypedHeaders
 pub mod PlaceLaws
 pub mod EntryLaws
 pub mod SlotLaws

@@ -132,7 +132,7 @@ no_part ds NoMain (PlainDecl.Deparser name emits) h b = true≢false (sym h)
 no_part ds NoMain (PlainDecl.Main parser control deparser) h b = true≢false (sym h)
 no_part ds _ _ h b = b
 
-each : (f : PlainDecl → Bool) (ds : List PlainDecl) (d : ℕ) (x : PlainDecl) → list_all f ds ≡ true → slice_get ds d ≡ Some x → f x ≡ true
+pub each : (f : PlainDecl → Bool) (ds : List PlainDecl) (d : ℕ) (x : PlainDecl) → list_all f ds ≡ true → slice_get ds d ≡ Some x → f x ≡ true
 each f [] d x h e = cc
 each f (y ∷ ys) zero x h e = let s : y ≡ x = cc in ap f (sym s) ∙ first (f y) (list_all f ys) h
   where

@@ -6,7 +6,7 @@ use Rattle.elastic_ast.specs.declared.statements.Amount.TheVariants as amount
 use Rattle.elastic_ast.specs.declared.statements.Lval.{Lval}
 use Rattle.elastic_ast.specs.declared.statements.Lval.TheVariants as lval
 use Rattle.elastic_ast.specs.declared.declarations.Field.{Field}
-use Rattle.elastic_ast.specs.Tree.{Name, PlainDecl, PlainExpr}
+use Rattle.elastic_ast.specs.Tree.{Name, PlainExpr}
 use Rattle.elastic_ast.specs.Scope.{same, Scope, is_index}
 use Rattle.elastic_ast.specs.LookUps.{constant_of, is_member, header_fields, meta_field, width_among, std_width}
 use Rattle.elastic_ast.specs.Operators.{operator_of, Sort, Logic, Comparison, Shift, Joining, Arithmetic, sort_of}

@@ -7,6 +7,7 @@ pub mod AskedOfNames
 pub mod AskedInExpressions
 pub mod AskedInStatements
 pub mod NamedRegisters
+pub mod Conflicts
 pub mod AskedInLocals
 pub mod ParserLoops
 pub mod Asked
@@ -59,3 +60,6 @@ pub mod WorkedUnits
 pub mod Footprints
 pub mod Exchange
 pub mod CutMeaning
+pub mod WorkedTyping
+pub mod WorkedTyped
+pub mod Unnested

@@ -13,6 +13,9 @@ mod rule;
 mod slot;
 mod spot;
 mod statements;
+mod typing_details;
+mod typing_examples;
+mod typing_law;
 mod unit_examples;
 mod unit_laws;
 mod vector;
@@ -34,6 +37,15 @@ pub use packet_law::{law_of_parser_ends, law_of_taken_locations};
 pub use registers::Registers;
 pub use rule::Rule;
 pub use statements::{Amount, Expr, Lval, RegRef, Stmt};
+pub use typing_details::{names_in_detail, sizes_in_detail, tables_in_detail, values_in_detail};
+pub use typing_examples::{
+    names_are_declared_once_and_known, names_may_break_two_rules, parts_belong_together,
+    registers_are_named_by_one_unit, sizes_and_indices_agree, tables_and_calls_agree,
+    whole_programs_are_typed, widths_agree,
+};
+pub use typing_law::{
+    loops_do_not_nest, parsers_end_and_headers_are_declared, tables_run_what_they_list,
+};
 pub use unit_examples::{
     bits_of_a_table, flat_names, instances_of_a_sketch, orders_of_two_units,
     registers_of_two_units, stages_of_blocks, units_of_a_branch, units_of_a_call,

@@ -1,0 +1,30 @@
+//! What a typed program has, as laws over the definitions.
+
+ghost use Rattle.std.specs.Prelude.{◌≡◌, true, false, ◌∷◌, Bool, List, Option, Some, None, Contains};
+ghost use Rattle.elastic_ast.specs.Tree.{Name, PlainDecl, PlainExpr, PlainEntry, PlainTable, PlainState};
+ghost use Rattle.elastic_ast.specs.Scope.{among};
+ghost use Rattle.elastic_ast.specs.LookUps.{action_of, table_of, is_member};
+ghost use Rattle.elastic_ast.specs.Parts.{states_of, body_of, emits_of};
+ghost use Rattle.elastic_ast.specs.AskedInStatements.{no_action_name};
+ghost use Rattle.elastic_ast.specs.ParserLoops.{Loops};
+ghost use Rattle.elastic_ast.specs.Typed.{Typed};
+ghost use Rattle.elastic_ast.specs.Unnested.{Unnested};
+
+/// In the body of the control that `main` names no loop stands in a loop.
+pub fn loops_do_not_nest()
+    ensures { (allow : Bool) (decls : List PlainDecl) → Typed allow decls → Unnested (body_of decls) false }
+{}
+
+/// No state of the parser that `main` names comes back to itself, and what it extracts or the deparser emits is a header.
+pub fn parsers_end_and_headers_are_declared()
+    ensures ends { (allow : Bool) (decls : List PlainDecl) → Typed allow decls → (states : List PlainState) → states_of decls ≡ Some states → Loops states → ⊥ }
+    ensures extracted { (allow : Bool) (decls : List PlainDecl) → Typed allow decls → (states : List PlainState) → states_of decls ≡ Some states → (state : PlainState) → Contains states state → (header : Name) → Contains state.extracts header → is_member decls header ≡ true }
+    ensures emitted { (allow : Bool) (decls : List PlainDecl) → Typed allow decls → (header : Name) → Contains (emits_of decls) header → is_member decls header ≡ true }
+{}
+
+/// A table runs the actions that it lists, or `NoAction` as its default, which no control declares.
+pub fn tables_run_what_they_list()
+    ensures entries { (allow : Bool) (decls : List PlainDecl) → Typed allow decls → (name : Name) (table : PlainTable) → table_of decls name ≡ Some table → (entry : PlainEntry) → Contains table.entries entry → among table.actions entry.action ≡ true }
+    ensures fallback { (allow : Bool) (decls : List PlainDecl) → Typed allow decls → (name : Name) (table : PlainTable) → table_of decls name ≡ Some table → (run : Name × List PlainExpr) → table.fallback ≡ Some run → among (no_action_name ∷ table.actions) run.0 ≡ true }
+    ensures undeclared { (allow : Bool) (decls : List PlainDecl) → Typed allow decls → action_of decls no_action_name ≡ None }
+{}
