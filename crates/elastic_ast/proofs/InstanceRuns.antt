@@ -16,7 +16,8 @@ use Rattle.elastic_ast.specs.UnitsOf.{Around, unit_of, inner_pieces, cuts_of}
 use Rattle.elastic_ast.specs.Instances.{Instance, nth_size, at_index, each_turn}
 use Rattle.elastic_ast.specs.CutInstances.{numbered, cut_instances}
 use Rattle.elastic_ast.specs.Work.{does, after, run}
-use Rattle.elastic_ast.specs.CutMeaning.{Same, Unnested, UnnestedAll, run_cuts, InstancesKeepTheMeaning}
+use Rattle.elastic_ast.specs.Unnested.{UnnestedStmt, Unnested}
+use Rattle.elastic_ast.specs.CutMeaning.{Same, run_cuts, InstancesKeepTheMeaning}
 use Rattle.elastic_ast.proofs.UnitLists.{program_lists_agree}
 use Rattle.elastic_ast.proofs.KeptMeaning.{NoLoop, NoLoop-with_lit, no_loop_all, all_same}
 
@@ -45,7 +46,7 @@ NoNest-guarded (Some u) c own k g a h = tt
 NoNest-guarded None c own k g a h = NoNest-branched c own k g a Nil h tt
 
 mutual
-  no_nest : (x : PlainStmt) (k : ℕ) (g : Option ℕ) → Unnested x false → NoNest (cut x false k g)
+  no_nest : (x : PlainStmt) (k : ℕ) (g : Option ℕ) → UnnestedStmt x false → NoNest (cut x false k g)
   no_nest (PlainStmt.Block o b) k g h = no_nest_all b k (scope.or_else o g) h
   no_nest (PlainStmt.If c b) k g h = NoNest-guarded (single (cut_all b false k g)) c false k g (cut_all b false (suc k) g) (no_nest_all b (suc k) g h)
   no_nest (PlainStmt.IfElse c b d) k g h =
@@ -58,7 +59,7 @@ mutual
   no_nest (PlainStmt.Call n j es) k g h = tt
   no_nest (PlainStmt.Apply n) k g h = tt
 
-  no_nest_all : (b : PlainStmts) (k : ℕ) (g : Option ℕ) → UnnestedAll b false → NoNest (cut_all b false k g)
+  no_nest_all : (b : PlainStmts) (k : ℕ) (g : Option ℕ) → Unnested b false → NoNest (cut_all b false k g)
   no_nest_all PlainStmts.nil k g h = tt
   no_nest_all (PlainStmts.cons x r) k g h =
       NoNest-append (cut x false k g) (cut_all r false (k + tests (cut x false k g)) g) (no_nest x k g h.0) (no_nest_all r (k + tests (cut x false k g)) g h.1)

@@ -17,7 +17,8 @@ use Rattle.elastic_ast.specs.Meaning.{turns, mean, means}
 use Rattle.elastic_ast.specs.PlainUnits.{PlainWork, Plain, Call, Apply, Pred}
 use Rattle.elastic_ast.specs.Cuts.{Piece, Cuts, Nil, One, Loop, append, tests, literal, lit_put, with_lit, single, branched, guarded, cut, cut_all}
 use Rattle.elastic_ast.specs.Work.{index_at, pred_place, lit_holds, lits_hold, conds_hold, work_writes, writes_if, does}
-use Rattle.elastic_ast.specs.CutMeaning.{is_predicate, Same, Unnested, UnnestedAll, run_cuts, PiecesKeepTheMeaning}
+use Rattle.elastic_ast.specs.Unnested.{UnnestedStmt, Unnested}
+use Rattle.elastic_ast.specs.CutMeaning.{is_predicate, Same, run_cuts, PiecesKeepTheMeaning}
 use Rattle.elastic_ast.proofs.PlaceLaws.{place_tells}
 use Rattle.elastic_ast.proofs.SamePieces.{same_refl, same_trans, same_over, leaf_same, holds_same, pred_at, leaf_pred}
 
@@ -100,7 +101,7 @@ NoLoop-guarded (Some u) c own k g a h = tt
 NoLoop-guarded None c own k g a h = NoLoop-branched c own k g a Nil h tt
 
 mutual
-  no_loop : (x : PlainStmt) (k : ℕ) (g : Option ℕ) → Unnested x true → NoLoop (cut x true k g)
+  no_loop : (x : PlainStmt) (k : ℕ) (g : Option ℕ) → UnnestedStmt x true → NoLoop (cut x true k g)
   no_loop (PlainStmt.Block o b) k g h = no_loop_all b k (scope.or_else o g) h
   no_loop (PlainStmt.If c b) k g h = NoLoop-guarded (single (cut_all b true k g)) c true k g (cut_all b true (suc k) g) (no_loop_all b (suc k) g h)
   no_loop (PlainStmt.IfElse c b d) k g h =
@@ -113,7 +114,7 @@ mutual
   no_loop (PlainStmt.Call n j es) k g h = tt
   no_loop (PlainStmt.Apply n) k g h = tt
 
-  pub no_loop_all : (b : PlainStmts) (k : ℕ) (g : Option ℕ) → UnnestedAll b true → NoLoop (cut_all b true k g)
+  pub no_loop_all : (b : PlainStmts) (k : ℕ) (g : Option ℕ) → Unnested b true → NoLoop (cut_all b true k g)
   no_loop_all PlainStmts.nil k g h = tt
   no_loop_all (PlainStmts.cons x r) k g h =
       NoLoop-append (cut x true k g) (cut_all r true (k + tests (cut x true k g)) g) (no_loop x k g h.0) (no_loop_all r (k + tests (cut x true k g)) g h.1)
@@ -366,17 +367,17 @@ module _ (decls : List PlainDecl) (sizes : List ℕ) where
       two_same c i k stage a Nil s t f (λ v. v) alike fa tt na (λ e. tt) first (λ u v e. e)
 
   mutual
-    stmt_same : (x : PlainStmt) (i : Option ℕ) (k : ℕ) (stage : Option ℕ) (s t : Memory) → Unnested x (is_some i) → Same s t → Same (run_cuts (cut x (is_some i) k stage) decls sizes i s) (mean x decls sizes i t)
+    stmt_same : (x : PlainStmt) (i : Option ℕ) (k : ℕ) (stage : Option ℕ) (s t : Memory) → UnnestedStmt x (is_some i) → Same s t → Same (run_cuts (cut x (is_some i) k stage) decls sizes i s) (mean x decls sizes i t)
     stmt_same (PlainStmt.Block o b) i k stage s t u a = all_same b i k (scope.or_else o stage) s t u a
     stmt_same (PlainStmt.If c b) i k stage s t u a =
         if_same (single (cut_all b (is_some i) k stage)) (cut_all b (is_some i) k stage) c i k stage (cut_all b (is_some i) (suc k) stage) s t (means b decls sizes i) refl a (all_same b i k stage s t u a) (from_all b (is_some i) (suc k) stage)
-        (λ h. subst (λ w. NoLoop (cut_all b w (suc k) stage)) (sym h) (no_loop_all b (suc k) stage (subst (UnnestedAll b) h u)))
+        (λ h. subst (λ w. NoLoop (cut_all b w (suc k) stage)) (sym h) (no_loop_all b (suc k) stage (subst (Unnested b) h u)))
         (λ m n h. all_same b i (suc k) stage m n u h)
     stmt_same (PlainStmt.IfElse c b d) i k stage s t u a =
         let k' : ℕ = suc k + tests (cut_all b (is_some i) (suc k) stage) in
         two_same c i k stage (cut_all b (is_some i) (suc k) stage) (cut_all d (is_some i) k' stage) s t (means b decls sizes i) (means d decls sizes i) a (from_all b (is_some i) (suc k) stage) (From-lower (suc k) k' (cut_all d (is_some i) k' stage) (omega arith) (from_all d (is_some i) k' stage))
-        (λ h. subst (λ w. NoLoop (cut_all b w (suc k) stage)) (sym h) (no_loop_all b (suc k) stage (subst (UnnestedAll b) h u.0)))
-        (λ h. subst (λ w. NoLoop (cut_all d w k' stage)) (sym h) (no_loop_all d k' stage (subst (UnnestedAll d) h u.1)))
+        (λ h. subst (λ w. NoLoop (cut_all b w (suc k) stage)) (sym h) (no_loop_all b (suc k) stage (subst (Unnested b) h u.0)))
+        (λ h. subst (λ w. NoLoop (cut_all d w k' stage)) (sym h) (no_loop_all d k' stage (subst (Unnested d) h u.1)))
         (λ m n h. all_same b i (suc k) stage m n u.0 h)
         (λ m n h. all_same d i k' stage m n u.1 h)
     stmt_same (PlainStmt.For n y b) i k stage s t u a = turns_same (size_at y) (λ j m. run_cuts (cut_all b true k stage) decls sizes (Some j) m) (λ j m. means b decls sizes (Some j) m) (λ j m n h. all_same b (Some j) k stage m n u.1 h) s t a
@@ -387,7 +388,7 @@ module _ (decls : List PlainDecl) (sizes : List ℕ) where
     stmt_same (PlainStmt.Call n j es) i k stage s t u a = same_over (leaf (PlainStmt.Call n j es) decls sizes i s) (leaf (PlainStmt.Call n j es) decls sizes i t) s t (leaf_same (PlainStmt.Call n j es) decls sizes i s t a) a
     stmt_same (PlainStmt.Apply n) i k stage s t u a = same_over (leaf (PlainStmt.Apply n) decls sizes i s) (leaf (PlainStmt.Apply n) decls sizes i t) s t (leaf_same (PlainStmt.Apply n) decls sizes i s t a) a
 
-    pub all_same : (b : PlainStmts) (i : Option ℕ) (k : ℕ) (stage : Option ℕ) (s t : Memory) → UnnestedAll b (is_some i) → Same s t → Same (run_cuts (cut_all b (is_some i) k stage) decls sizes i s) (means b decls sizes i t)
+    pub all_same : (b : PlainStmts) (i : Option ℕ) (k : ℕ) (stage : Option ℕ) (s t : Memory) → Unnested b (is_some i) → Same s t → Same (run_cuts (cut_all b (is_some i) k stage) decls sizes i s) (means b decls sizes i t)
     all_same PlainStmts.nil i k stage s t u a = a
     all_same (PlainStmts.cons x r) i k stage s t u a =
         let k' : ℕ = k + tests (cut x (is_some i) k stage) in

@@ -8,6 +8,7 @@ use Rattle.elastic_ast.specs.Meaning.{turns, means}
 use Rattle.elastic_ast.specs.Cuts.{Cuts, Nil, One, Loop, cut_all}
 use Rattle.elastic_ast.specs.UnitsOf.{units_of}
 use Rattle.elastic_ast.specs.Instances.{nth_size, instances}
+use Rattle.elastic_ast.specs.Unnested.{Unnested}
 use Rattle.elastic_ast.specs.Work.{does, run}
 
 -- the places of predicates begin with 4
@@ -19,24 +20,6 @@ is_predicate (Reg name index) = false
 -- two memories hold the same but for predicates
 pub record Same (memory other : Memory) : Type 0 where
   pub elsewhere : (spot : Spot) → is_predicate spot ≡ false → memory spot ≡ other spot
-
--- no loop stands in a loop; whether the statement stands in one
-abbrev mutual
-  pub Unnested : PlainStmt → Bool → Type 0
-  Unnested (PlainStmt.Block stage body) own = UnnestedAll body own
-  Unnested (PlainStmt.If condition body) own = UnnestedAll body own
-  Unnested (PlainStmt.IfElse condition body other) own = UnnestedAll body own × UnnestedAll other own
-  Unnested (PlainStmt.For index size body) own = (own ≡ false) × UnnestedAll body true
-  Unnested (PlainStmt.Assign to number) own = ⊤
-  Unnested (PlainStmt.Read to register cell) own = ⊤
-  Unnested (PlainStmt.Write register cell number) own = ⊤
-  Unnested (PlainStmt.Valid header on) own = ⊤
-  Unnested (PlainStmt.Call action index args) own = ⊤
-  Unnested (PlainStmt.Apply table) own = ⊤
-
-  pub UnnestedAll : PlainStmts → Bool → Type 0
-  UnnestedAll PlainStmts.nil own = ⊤
-  UnnestedAll (PlainStmts.cons first rest) own = Unnested first own × UnnestedAll rest own
 
 -- the memory after pieces, one after the other; those of a loop once for each number below its size
 abbrev pub run_cuts : Cuts → List PlainDecl → List ℕ → Option ℕ → Memory → Memory
@@ -51,12 +34,12 @@ run_cuts (Loop name size inner rest) decls sizes index memory =
 abbrev pub PiecesKeepTheMeaning : Type 0
 PiecesKeepTheMeaning =
     (decls : List PlainDecl) (sizes : List ℕ) (body : PlainStmts) (index : Option ℕ) (number : ℕ) (stage : Option ℕ) →
-    UnnestedAll body (is_some index) → (memory other : Memory) → Same memory other →
+    Unnested body (is_some index) → (memory other : Memory) → Same memory other →
     Same (run_cuts (cut_all body (is_some index) number stage) decls sizes index memory) (means body decls sizes index other)
 
 -- the instances of the units of a program, in order, do what its body does, predicates aside
 abbrev pub InstancesKeepTheMeaning : Type 0
 InstancesKeepTheMeaning =
-    (decls : List PlainDecl) (sizes : List ℕ) → length sizes ≤ length (symbols_of decls) → UnnestedAll (body_of decls) false →
+    (decls : List PlainDecl) (sizes : List ℕ) → length sizes ≤ length (symbols_of decls) → Unnested (body_of decls) false →
     (memory other : Memory) → Same memory other →
     Same (run (instances (units_of decls) (nth_size sizes)) decls sizes memory) (means (body_of decls) decls sizes None other)

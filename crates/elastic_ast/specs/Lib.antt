@@ -59,7 +59,7 @@ pub mod FlatNames
 pub mod WorkedUnits
 pub mod Footprints
 pub mod Exchange
+pub mod Unnested
 pub mod CutMeaning
 pub mod WorkedTyping
 pub mod WorkedTyped
-pub mod Unnested

@@ -9,7 +9,12 @@ abbrev mutual
   UnnestedStmt (PlainStmt.If condition body) in_loop = Unnested body in_loop
   UnnestedStmt (PlainStmt.IfElse condition body other) in_loop = Unnested body in_loop × Unnested other in_loop
   UnnestedStmt (PlainStmt.For index size body) in_loop = (in_loop ≡ false) × Unnested body true
-  UnnestedStmt _ in_loop = Unit {0}
+  UnnestedStmt (PlainStmt.Assign to value) in_loop = Unit {0}
+  UnnestedStmt (PlainStmt.Read to register cell) in_loop = Unit {0}
+  UnnestedStmt (PlainStmt.Write register cell value) in_loop = Unit {0}
+  UnnestedStmt (PlainStmt.Valid header on) in_loop = Unit {0}
+  UnnestedStmt (PlainStmt.Call action index args) in_loop = Unit {0}
+  UnnestedStmt (PlainStmt.Apply table) in_loop = Unit {0}
 
   pub Unnested : PlainStmts → Bool → Type 0
   Unnested PlainStmts.nil in_loop = Unit {0}
