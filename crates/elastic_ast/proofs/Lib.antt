@@ -40,3 +40,4 @@ pub mod Exchange
 pub mod SamePieces
 pub mod KeptMeaning
 pub mod InstanceRuns
+pub mod TypedPremises

@@ -44,7 +44,8 @@ pub use typing_examples::{
     whole_programs_are_typed, widths_agree,
 };
 pub use typing_law::{
-    loops_do_not_nest, parsers_end_and_headers_are_declared, tables_run_what_they_list,
+    parsers_end_and_headers_are_declared, tables_run_what_they_list,
+    typed_programs_meet_the_premises,
 };
 pub use unit_examples::{
     bits_of_a_table, flat_names, instances_of_a_sketch, orders_of_two_units,

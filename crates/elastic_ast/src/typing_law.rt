@@ -9,10 +9,18 @@ ghost use Rattle.elastic_ast.specs.AskedInStatements.{no_action_name};
 ghost use Rattle.elastic_ast.specs.ParserLoops.{Loops};
 ghost use Rattle.elastic_ast.specs.Typed.{Typed};
 ghost use Rattle.elastic_ast.specs.Unnested.{Unnested};
+ghost use Rattle.elastic_ast.specs.Footprints.{TablesFit};
+ghost use Rattle.elastic_ast.specs.TakenLocations.{IsExtractable};
+ghost use Rattle.elastic_ast.specs.ParserEnds.{IsLoopFree};
 
-/// In the body of the control that `main` names no loop stands in a loop.
-pub fn loops_do_not_nest()
-    ensures { (allow : Bool) (decls : List PlainDecl) → Typed allow decls → Unnested (body_of decls) false }
+/// A typed program meets the premises of the laws of units and packets: no loop stands in a loop of its body, its tables run
+/// the actions that they list, its parser extracts headers alone whose fields have names that differ, and no state of the
+/// parser comes back.
+pub fn typed_programs_meet_the_premises()
+    ensures loops { (allow : Bool) (decls : List PlainDecl) → Typed allow decls → Unnested (body_of decls) false }
+    ensures tables { (allow : Bool) (decls : List PlainDecl) → Typed allow decls → TablesFit decls }
+    ensures headers { (allow : Bool) (decls : List PlainDecl) → Typed allow decls → IsExtractable decls }
+    ensures states { (allow : Bool) (decls : List PlainDecl) → Typed allow decls → (states : List PlainState) → states_of decls ≡ Some states → IsLoopFree states }
 {}
 
 /// No state of the parser that `main` names comes back to itself, and what it extracts or the deparser emits is a header.
