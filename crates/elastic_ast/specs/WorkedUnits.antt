@@ -13,6 +13,11 @@ use Rattle.elastic_ast.specs.Tree.{Name, PlainDecl, PlainExpr, PlainStmt, PlainK
 use Rattle.elastic_ast.specs.PlainUnits.{PlainWork, PlainUnit}
 use Rattle.elastic_ast.specs.UnitsOf.{units_of}
 use Rattle.elastic_ast.specs.Order.{Relation, order}
+use Rattle.elx_bits.specs.Words.{Word}
+use Rattle.elastic_ast.specs.Places.{place}
+use Rattle.elastic_ast.specs.Memory.{Memory, At, held}
+use Rattle.elastic_ast.specs.Instances.{nth_size, instances}
+use Rattle.elastic_ast.specs.Work.{unit_writes, run}
 use Rattle.elastic_ast.specs.WorkedValues.{bare}
 use Rattle.elastic_ast.specs.WorkedProgram.{stmts, assign, is}
 
@@ -339,3 +344,21 @@ at_big = location.Header (codes "h") (codes "big")
 
 abbrev pub at_std : Name → Location
 at_std name = location.Std name
+
+-- everything holds this number, in 8 bits
+abbrev pub filled : ℕ → Memory
+filled number = held (λ place. (8, number)) (λ name index. [])
+
+-- what the instance of a unit writes to a location at an index, where everything holds a number and the size of `s` is 3
+abbrev pub written_by : List PlainUnit → List PlainDecl → ℕ → ℕ → ℕ → List ℕ → Option Word
+written_by [] decls number unit index place = None
+written_by (first ∷ rest) decls number zero index place = unit_writes first decls (3 ∷ []) index (filled number) (At place)
+written_by (first ∷ rest) decls number (suc unit) index place = written_by rest decls number unit index place
+
+abbrev pub writes_to : List PlainDecl → ℕ → ℕ → ℕ → Location → Option ℕ → Option Word
+writes_to decls number unit index at its = written_by (units_of decls) decls number unit index (place at its)
+
+-- what a location holds after all instances, where everything held a number
+abbrev pub after_all : List PlainDecl → ℕ → Location → Option ℕ → Word
+after_all decls number at its =
+    run (instances (units_of decls) (nth_size (3 ∷ []))) decls (3 ∷ []) (filled number) (At (place at its))

@@ -10,9 +10,12 @@ ghost use Rattle.elastic_ast.specs.UnitsOf.{units_of, fixed_bits, symbol_bits};
 ghost use Rattle.elastic_ast.specs.Costs.{expr_ops};
 ghost use Rattle.elastic_ast.specs.Instances.{instances_of};
 ghost use Rattle.elastic_ast.specs.Order.{Relation};
+ghost use Rattle.elastic_ast.specs.Footprints.{TablesFit};
+ghost use Rattle.elastic_ast.specs.CutMeaning.{UnnestedAll};
+ghost use Rattle.elastic_ast.specs.Parts.{body_of};
 ghost use Rattle.elastic_ast.specs.FlatNames.{flat_name, SameRegisters};
 ghost use Rattle.elastic_ast.specs.WorkedProgram.{assign, is};
-ghost use Rattle.elastic_ast.specs.WorkedUnits.{a, b, e, get, small, when, set, on, off, own_on, at_a, at_b, at_e, at_pred, lits_of, conds_of, works_of, reads_of, writes_of, costs_of, ops_of, stages_of, loops_of, cells_of, bits_of, order_of_two, order_of_turns, sketch, is_less, call_in_loop, scalar, own_meta, own_sketch, at_low, at_src, sizes_of_sketch, two_arrays, with_table, branch, branch_in_branch, two_branches, loop_in_branch, branch_in_loop, blocks, element_in_loop, then, validity, call_with_argument, four_operators, big_headers, at_big, at_std};
+ghost use Rattle.elastic_ast.specs.WorkedUnits.{a, b, e, get, small, when, set, on, off, own_on, at_a, at_b, at_e, at_pred, lits_of, conds_of, works_of, reads_of, writes_of, costs_of, ops_of, stages_of, loops_of, cells_of, bits_of, order_of_two, order_of_turns, sketch, is_less, call_in_loop, scalar, own_meta, own_sketch, at_low, at_src, sizes_of_sketch, two_arrays, with_table, branch, branch_in_branch, two_branches, loop_in_branch, branch_in_loop, blocks, element_in_loop, then, validity, call_with_argument, four_operators, big_headers, at_big, at_std, writes_to, after_all};
 
 /// A condition over two statements is one condition unit and two guarded units.
 pub fn units_of_a_branch()
@@ -154,6 +157,33 @@ pub fn units_of_big_headers()
     ensures ops { ops_of big_headers ≡ 1 ∷ 1 ∷ 1 ∷ 0 ∷ [] }
     ensures cells { cells_of big_headers ≡ (Some (cells.Fixed 1), 8) ∷ (None, 0) ∷ (None, 0) ∷ (None, 0) ∷ [] }
     ensures fixed { fixed_bits big_headers ≡ 137 }
+{}
+
+/// What instances write, where everything holds 0 or 5 in 8 bits: a condition writes its predicate, a literal or condition that
+/// doesn't hold leaves nothing to write, and an own element is that of the index.
+pub fn writes_of_instances()
+    ensures condition_holds { writes_to branch 0 0 0 (at_pred 0) None ≡ Some (1, 1) }
+    ensures condition_fails { writes_to branch 5 0 0 (at_pred 0) None ≡ Some (1, 0) }
+    ensures literal_fails { writes_to branch 0 1 0 at_a None ≡ None }
+    ensures literal_off { writes_to two_branches 0 2 0 at_b None ≡ None }
+    ensures own_predicate { writes_to branch_in_loop 0 0 2 (location.Pred 0 true) (Some 2) ≡ Some (1, 1) }
+    ensures own_element { writes_to element_in_loop 0 0 1 at_e (Some 1) ≡ Some (8, 1) }
+    ensures other_element { writes_to element_in_loop 0 0 1 at_e (Some 0) ≡ None }
+{}
+
+/// What stands there after all instances in order.
+pub fn memory_after_instances()
+    ensures first_branch { after_all branch 0 at_a None ≡ (8, 1) }
+    ensures first_branch_too { after_all branch 0 at_b None ≡ (8, 2) }
+    ensures no_branch { after_all branch 5 at_a None ≡ (8, 5) }
+    ensures last_element { after_all element_in_loop 0 at_e (Some 2) ≡ (8, 1) }
+    ensures no_such_element { after_all element_in_loop 0 at_e (Some 3) ≡ (8, 0) }
+{}
+
+/// Programs that meet what the laws of units ask.
+pub fn programs_that_fit()
+    ensures tables { TablesFit (with_table true None) }
+    ensures loops { UnnestedAll (body_of sketch) false }
 {}
 
 /// Elements and registers under their flat names.
