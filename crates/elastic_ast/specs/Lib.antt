@@ -62,4 +62,3 @@ pub mod Exchange
 pub mod Unnested
 pub mod CutMeaning
 pub mod WorkedTyping
-pub mod WorkedTyped

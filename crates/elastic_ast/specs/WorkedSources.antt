@@ -1,7 +1,10 @@
--- Worked programs with one header, and what they do with packets, for the equations that show what programs mean; this
+-- Whole worked programs with one header, and what they do with packets, for the equations that show what programs mean; this
 -- project's own.
 use Rattle.std.specs.Prelude.{ℕ, false, true, List, [], ◌∷◌, ◌++◌, Option, Some, None, codes}
 use Rattle.elastic_ast.specs.declared.declarations.Field.{Field}
+use Rattle.elastic_ast.specs.declared.declarations.LinTerm.{LinTerm}
+use Rattle.elastic_ast.specs.declared.declarations.Rel.TheVariants as rel
+use Rattle.elastic_ast.specs.declared.declarations.UtilTerm.TheVariants as util
 use Rattle.elastic_ast.specs.declared.flat.Packet.{Packet}
 use Rattle.elastic_ast.specs.declared.flat.Out.{Out}
 use Rattle.elastic_ast.specs.declared.statements.Amount.TheVariants as amount
@@ -14,20 +17,24 @@ use Rattle.elastic_ast.specs.Packets.{packets_meaning}
 use Rattle.elastic_ast.specs.WorkedProgram.{stmts}
 use Rattle.elastic_ast.specs.WorkedValues.{bare}
 
--- A program around one header `hdr.h`, which the one state of the parser extracts and the deparser emits: what stands in
--- front, the fields of the header, the metadata, the registers, and the actions and tables and the body of the control
-abbrev pub frame : List PlainDecl → List Field → List Field → List PlainDecl → List PlainLocal → List PlainStmt → List PlainDecl
-frame before fields metadata registers locals body =
+-- A program around one header, whose type and name are given, which the one state of the parser extracts and the deparser
+-- emits: what stands in front, the fields of the header, the metadata, the registers, and the actions and tables and the body of
+-- the control
+abbrev pub around : Name → Name → List PlainDecl → List Field → List Field → List PlainDecl → List PlainLocal → List PlainStmt → List PlainDecl
+around type header before fields metadata registers locals body =
     before
-    ++ (PlainDecl.Header (codes "h_t") fields
-    ∷ PlainDecl.Headers ((codes "h_t", codes "h") ∷ [])
+    ++ (PlainDecl.Header type fields
+    ∷ PlainDecl.Headers ((type, header) ∷ [])
     ∷ PlainDecl.Meta metadata
     ∷ (registers
-    ++ (PlainDecl.Parser (codes "P") (record { name = codes "start"; extracts = codes "h" ∷ []; next = PlainNext.To (codes "accept") } ∷ [])
+    ++ (PlainDecl.Parser (codes "P") (record { name = codes "start"; extracts = header ∷ []; next = PlainNext.To (codes "accept") } ∷ [])
     ∷ PlainDecl.Control (codes "C") locals (stmts body)
-    ∷ PlainDecl.Deparser (codes "D") (codes "h" ∷ [])
+    ∷ PlainDecl.Deparser (codes "D") (header ∷ [])
     ∷ PlainDecl.Main (codes "P") (codes "C") (codes "D")
     ∷ [])))
+
+abbrev pub frame : List PlainDecl → List Field → List Field → List PlainDecl → List PlainLocal → List PlainStmt → List PlainDecl
+frame = around (codes "h_t") (codes "h")
 
 abbrev pub bits : ℕ → Name → Field
 bits width name = record { name = name; width = width; size = None }
@@ -166,4 +173,73 @@ counted_rows =
     (PlainStmt.For (codes "i") (codes "n")
     (stmts (PlainStmt.Write (record { name = codes "r"; index = Some (codes "i") }) (bare 1) (plus (at (of_header (codes "v"))) (bare 1)) ∷ []))
     ∷ PlainStmt.Assign (of_header (codes "v")) (plus (at (of_header (codes "v"))) (bare 250))
+    ∷ [])
+
+-- `symbolic int a; symbolic int b; assume(b >= 5); maximize(3*a + 2*b);`, `Register<bit<32>>(a) ra; Register<bit<32>>(b) rb;`, and
+-- the body `meta.x = ra.read(0); meta.y = rb.read(0);`
+abbrev pub number : ℕ → LinTerm
+number by = record { minus = false; by = by; symbol = None }
+
+abbrev pub times : ℕ → Name → LinTerm
+times by symbol = record { minus = false; by = by; symbol = Some symbol }
+
+abbrev pub at_least : Name → ℕ → PlainDecl
+at_least symbol by = PlainDecl.Assume (record { left = times 1 symbol ∷ []; rel = rel.Ge; right = number by ∷ [] } ∷ [])
+
+abbrev pub two_register_arrays : List PlainDecl
+two_register_arrays =
+    frame
+    (PlainDecl.Symbol (codes "a") ∷ PlainDecl.Symbol (codes "b") ∷ at_least (codes "b") 5
+    ∷ PlainDecl.Maximize (util.Lin (times 3 (codes "a")) ∷ util.Lin (times 2 (codes "b")) ∷ [])
+    ∷ [])
+    (bits 8 (codes "v") ∷ []) (bits 32 (codes "x") ∷ bits 32 (codes "y") ∷ [])
+    (PlainDecl.Register (codes "ra") 32 (amount.Named (codes "a")) None ∷ PlainDecl.Register (codes "rb") 32 (amount.Named (codes "b")) None ∷ [])
+    []
+    (PlainStmt.Read (of_meta (codes "x")) (alone (codes "ra")) (bare 0) ∷ PlainStmt.Read (of_meta (codes "y")) (alone (codes "rb")) (bare 0) ∷ [])
+
+-- A count-min sketch of `rows` rows and `cols` columns over the source address of Ethernet: `count[i]` hashes it into a row of
+-- `sketch` and counts there, and the least of the counts is kept in `meta.low`
+abbrev pub of_row : Name → Lval
+of_row name = lval.Meta name (Some (codes "i"))
+
+abbrev pub sketch_row : RegRef
+sketch_row = record { name = codes "sketch"; index = Some (codes "i") }
+
+abbrev pub call_in_row : Name → PlainStmt
+call_in_row action = PlainStmt.Call action (Some (codes "i")) []
+
+abbrev pub is_less : PlainExpr
+is_less = PlainExpr.Binary 4 (at (of_row (codes "cnt"))) (at (of_meta (codes "low")))
+
+abbrev pub count_min_sketch : List PlainDecl
+count_min_sketch =
+    PlainDecl.Include 0
+    ∷ PlainDecl.Include 1
+    ∷ around (codes "eth_t") (codes "eth")
+    (PlainDecl.Symbol (codes "rows") ∷ PlainDecl.Symbol (codes "cols") ∷ at_least (codes "rows") 1
+    ∷ PlainDecl.Maximize (util.Lin (times 100 (codes "rows")) ∷ util.Lin (times 1 (codes "cols")) ∷ [])
+    ∷ [])
+    (bits 48 (codes "dst") ∷ bits 48 (codes "src") ∷ bits 16 (codes "kind") ∷ [])
+    (array 32 (codes "rows") (codes "idx") ∷ array 32 (codes "rows") (codes "cnt") ∷ bits 32 (codes "low") ∷ [])
+    (PlainDecl.Register (codes "sketch") 32 (amount.Named (codes "cols")) (Some (codes "rows")) ∷ [])
+    (PlainLocal.OfAction record {
+      name = codes "count";
+      index = Some (codes "i");
+      params = [];
+      body = stmts
+          (PlainStmt.Assign (of_row (codes "idx")) (PlainExpr.Hash (amount.Named (codes "i")) (at (lval.Header (codes "eth") (codes "src"))) (amount.Named (codes "cols")))
+          ∷ PlainStmt.Read (of_row (codes "cnt")) sketch_row (at (of_row (codes "idx")))
+          ∷ PlainStmt.Write sketch_row (at (of_row (codes "idx"))) (plus (at (of_row (codes "cnt"))) (bare 1))
+          ∷ []);
+    }
+    ∷ PlainLocal.OfAction record {
+      name = codes "least";
+      index = Some (codes "i");
+      params = [];
+      body = stmts (PlainStmt.Assign (of_meta (codes "low")) (at (of_row (codes "cnt"))) ∷ []);
+    }
+    ∷ [])
+    (PlainStmt.Assign (of_meta (codes "low")) (bare 0xFFFFFFFF)
+    ∷ PlainStmt.For (codes "i") (codes "rows")
+    (stmts (call_in_row (codes "count") ∷ PlainStmt.If is_less (stmts (call_in_row (codes "least") ∷ [])) ∷ []))
     ∷ [])

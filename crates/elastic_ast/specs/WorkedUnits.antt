@@ -20,22 +20,7 @@ use Rattle.elastic_ast.specs.Instances.{nth_size, instances}
 use Rattle.elastic_ast.specs.Work.{unit_writes, run}
 use Rattle.elastic_ast.specs.WorkedValues.{bare}
 use Rattle.elastic_ast.specs.WorkedProgram.{stmts, assign, is}
-
-abbrev pub field : Name → ℕ → Option Name → Field
-field name width size = record { name = name; width = width; size = size }
-
--- a program: symbols, one header `h`, metadata, registers, and a control with locals and a body
-abbrev pub framed : List PlainDecl → List Field → List Field → List PlainDecl → List PlainLocal → List PlainStmt → List PlainDecl
-framed symbols header metadata registers locals body =
-    symbols
-    ++ (PlainDecl.Header (codes "h_t") header
-    ∷ PlainDecl.Headers ((codes "h_t", codes "h") ∷ [])
-    ∷ PlainDecl.Meta metadata
-    ∷ (registers
-    ++ (PlainDecl.Control (codes "C") locals (stmts body)
-    ∷ PlainDecl.Deparser (codes "D") (codes "h" ∷ [])
-    ∷ PlainDecl.Main (codes "P") (codes "C") (codes "D")
-    ∷ [])))
+use Rattle.elastic_ast.specs.WorkedSources.{bits, array, frame}
 
 -- fields of `hdr.h`
 abbrev pub in_header : Name → Lval
@@ -57,8 +42,8 @@ get from = PlainExpr.At from
 -- the header has `a` and `b` of 8 bits, the metadata an array of bytes of size `s`
 abbrev pub small : List PlainStmt → List PlainDecl
 small body =
-    framed (PlainDecl.Symbol (codes "s") ∷ []) (field (codes "a") 8 None ∷ field (codes "b") 8 None ∷ [])
-    (field (codes "e") 8 (Some (codes "s")) ∷ []) [] [] body
+    frame (PlainDecl.Symbol (codes "s") ∷ []) (bits 8 (codes "a") ∷ bits 8 (codes "b") ∷ [])
+    (array 8 (codes "s") (codes "e") ∷ []) [] [] body
 
 abbrev pub when : PlainExpr → List PlainStmt → PlainStmt
 when condition body = PlainStmt.If condition (stmts body)
@@ -145,57 +130,6 @@ abbrev pub order_of_turns : ℕ → ℕ → List PlainUnit → Option Relation
 order_of_turns index index' (first ∷ rest) = Some (order first first index index')
 order_of_turns index index' [] = None
 
--- a count-min sketch: `count` hashes a field into a row of the register array `sketch` and counts there, and the least count is
--- kept in `low`
-abbrev pub scalar : Name → Lval
-scalar name = lval.Meta name None
-
-abbrev pub element : Name → Lval
-element name = lval.Meta name (Some (codes "i"))
-
-abbrev pub sketch_row : RegRef
-sketch_row = record { name = codes "sketch"; index = Some (codes "i") }
-
-abbrev pub count_action : PlainAction
-count_action =
-    record {
-      name = codes "count";
-      index = Some (codes "i");
-      params = [];
-      body =
-          stmts
-          (PlainStmt.Assign (element (codes "idx")) (PlainExpr.Hash (amount.Named (codes "i")) (get (in_header (codes "src"))) (amount.Named (codes "cols")))
-          ∷ PlainStmt.Read (element (codes "cnt")) sketch_row (get (element (codes "idx")))
-          ∷ PlainStmt.Write sketch_row (get (element (codes "idx"))) (PlainExpr.Binary 13 (get (element (codes "cnt"))) (bare 1))
-          ∷ []);
-    }
-
-abbrev pub least_action : PlainAction
-least_action =
-    record {
-      name = codes "least";
-      index = Some (codes "i");
-      params = [];
-      body = stmts (PlainStmt.Assign (scalar (codes "low")) (get (element (codes "cnt"))) ∷ []);
-    }
-
-abbrev pub call_in_loop : Name → PlainStmt
-call_in_loop action = PlainStmt.Call action (Some (codes "i")) []
-
-abbrev pub is_less : PlainExpr
-is_less = PlainExpr.Binary 4 (get (element (codes "cnt"))) (get (scalar (codes "low")))
-
-abbrev pub sketch : List PlainDecl
-sketch =
-    framed (PlainDecl.Symbol (codes "rows") ∷ PlainDecl.Symbol (codes "cols") ∷ [])
-    (field (codes "dst") 48 None ∷ field (codes "src") 48 None ∷ field (codes "kind") 16 None ∷ [])
-    (field (codes "idx") 32 (Some (codes "rows")) ∷ field (codes "cnt") 32 (Some (codes "rows")) ∷ field (codes "low") 32 None ∷ [])
-    (PlainDecl.Register (codes "sketch") 32 (amount.Named (codes "cols")) (Some (codes "rows")) ∷ [])
-    (PlainLocal.OfAction count_action ∷ PlainLocal.OfAction least_action ∷ [])
-    (assign (scalar (codes "low")) 0xFFFFFFFF
-    ∷ PlainStmt.For (codes "i") (codes "rows") (stmts (call_in_loop (codes "count") ∷ when is_less (call_in_loop (codes "least") ∷ []) ∷ []))
-    ∷ [])
-
 abbrev pub own_meta : Name → Location
 own_meta name = location.Meta name true
 
@@ -206,26 +140,12 @@ abbrev pub at_low : Location
 at_low = location.Meta (codes "low") false
 
 abbrev pub at_src : Location
-at_src = location.Header (codes "h") (codes "src")
+at_src = location.Header (codes "eth") (codes "src")
 
 -- the first size is that of `rows`, the second that of `cols`
 abbrev pub sizes_of_sketch : ℕ → ℕ → ℕ
 sizes_of_sketch rows zero = rows
 sizes_of_sketch rows (suc symbol) = 100
-
--- two register arrays: `meta.x = ra.read(0); meta.y = rb.read(0);`
-abbrev pub plain_register : Name → RegRef
-plain_register name = record { name = name; index = None }
-
-abbrev pub two_arrays : List PlainDecl
-two_arrays =
-    framed (PlainDecl.Symbol (codes "a") ∷ PlainDecl.Symbol (codes "b") ∷ []) (field (codes "v") 8 None ∷ [])
-    (field (codes "x") 32 None ∷ field (codes "y") 32 None ∷ [])
-    (PlainDecl.Register (codes "ra") 32 (amount.Named (codes "a")) None ∷ PlainDecl.Register (codes "rb") 32 (amount.Named (codes "b")) None ∷ [])
-    []
-    (PlainStmt.Read (scalar (codes "x")) (plain_register (codes "ra")) (bare 0)
-    ∷ PlainStmt.Read (scalar (codes "y")) (plain_register (codes "rb")) (bare 0)
-    ∷ [])
 
 -- a table over `hdr.h.a` with two entries that run `put(n)`, which assigns `n` to it
 abbrev pub put_action : PlainAction
@@ -253,7 +173,7 @@ two_entries ternary size =
 
 abbrev pub with_table : Bool → Option ℕ → List PlainDecl
 with_table ternary size =
-    framed [] (field (codes "a") 8 None ∷ []) [] [] (PlainLocal.OfAction put_action ∷ PlainLocal.OfTable (two_entries ternary size) ∷ [])
+    frame [] (bits 8 (codes "a") ∷ []) [] [] (PlainLocal.OfAction put_action ∷ PlainLocal.OfTable (two_entries ternary size) ∷ [])
     (PlainStmt.Apply (codes "t") ∷ [])
 
 -- `if (hdr.h.a == 0) { hdr.h.a = 1; hdr.h.b = 2; }`
@@ -299,45 +219,12 @@ validity = small (PlainStmt.Valid (codes "h") false ∷ when (PlainExpr.IsValid 
 -- `put(hdr.h.a + 1)`
 abbrev pub call_with_argument : List PlainDecl
 call_with_argument =
-    framed [] (field (codes "a") 8 None ∷ []) [] [] (PlainLocal.OfAction put_action ∷ [])
+    frame [] (bits 8 (codes "a") ∷ []) [] [] (PlainLocal.OfAction put_action ∷ [])
     (PlainStmt.Call (codes "put") None (PlainExpr.Binary 13 (get a) (bare 1) ∷ []) ∷ [])
 
 -- an expression of a join, a cast, a slice and a turned number
 abbrev pub four_operators : PlainExpr
 four_operators = PlainExpr.Binary 15 (PlainExpr.Cast 8 (PlainExpr.Slice (get a) 3 0)) (PlainExpr.Unary 17 (get b))
-
--- packets with a big field of 0 are counted in one cell and dropped
-abbrev pub big : Lval
-big = in_header (codes "big")
-
-abbrev pub drop_field : Lval
-drop_field = lval.Std (codes "drop")
-
-abbrev pub seen_register : RegRef
-seen_register = record { name = codes "seen"; index = None }
-
-abbrev pub note_action : PlainAction
-note_action =
-    record {
-      name = codes "note";
-      index = None;
-      params = [];
-      body =
-          stmts
-          (PlainStmt.Read (scalar (codes "n")) seen_register (bare 0)
-          ∷ PlainStmt.Write seen_register (bare 0) (PlainExpr.Binary 13 (get (scalar (codes "n"))) (bare 1))
-          ∷ []);
-    }
-
-abbrev pub big_headers : List PlainDecl
-big_headers =
-    framed [] (field (codes "big") 128 None ∷ []) (field (codes "n") 8 None ∷ []) (PlainDecl.Register (codes "seen") 8 (amount.Num 1) None ∷ [])
-    (PlainLocal.OfAction note_action ∷ [])
-    (PlainStmt.Call (codes "note") None []
-    ∷ when (is big 0) (assign drop_field 1 ∷ [])
-    ∷ PlainStmt.Assign big (PlainExpr.Binary 13 (get big) (bare 1))
-    ∷ PlainStmt.Assign (lval.Std (codes "out_port")) (get (lval.Std (codes "in_port")))
-    ∷ [])
 
 abbrev pub at_big : Location
 at_big = location.Header (codes "h") (codes "big")

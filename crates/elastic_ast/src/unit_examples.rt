@@ -11,11 +11,12 @@ ghost use Rattle.elastic_ast.specs.Costs.{expr_ops};
 ghost use Rattle.elastic_ast.specs.Instances.{instances_of};
 ghost use Rattle.elastic_ast.specs.Order.{Relation};
 ghost use Rattle.elastic_ast.specs.Footprints.{TablesFit};
-ghost use Rattle.elastic_ast.specs.CutMeaning.{UnnestedAll};
+ghost use Rattle.elastic_ast.specs.Unnested.{Unnested};
 ghost use Rattle.elastic_ast.specs.Parts.{body_of};
 ghost use Rattle.elastic_ast.specs.FlatNames.{flat_name, SameRegisters};
 ghost use Rattle.elastic_ast.specs.WorkedProgram.{assign, is};
-ghost use Rattle.elastic_ast.specs.WorkedUnits.{a, b, e, get, small, when, set, on, off, own_on, at_a, at_b, at_e, at_pred, lits_of, conds_of, works_of, reads_of, writes_of, costs_of, ops_of, stages_of, loops_of, cells_of, bits_of, order_of_two, order_of_turns, sketch, is_less, call_in_loop, scalar, own_meta, own_sketch, at_low, at_src, sizes_of_sketch, two_arrays, with_table, branch, branch_in_branch, two_branches, loop_in_branch, branch_in_loop, blocks, element_in_loop, then, validity, call_with_argument, four_operators, big_headers, at_big, at_std, writes_to, after_all};
+ghost use Rattle.elastic_ast.specs.WorkedSources.{of_meta, call_in_row, is_less, count_min_sketch, two_register_arrays, count_big_headers};
+ghost use Rattle.elastic_ast.specs.WorkedUnits.{a, b, e, get, small, when, set, on, off, own_on, at_a, at_b, at_e, at_pred, lits_of, conds_of, works_of, reads_of, writes_of, costs_of, ops_of, stages_of, loops_of, cells_of, bits_of, order_of_two, order_of_turns, own_meta, own_sketch, at_low, at_src, sizes_of_sketch, with_table, branch, branch_in_branch, two_branches, loop_in_branch, branch_in_loop, blocks, element_in_loop, then, validity, call_with_argument, four_operators, at_big, at_std, writes_to, after_all};
 
 /// A condition over two statements is one condition unit and two guarded units.
 pub fn units_of_a_branch()
@@ -81,29 +82,29 @@ pub fn stages_of_blocks()
 
 /// A count-min sketch: an assignment, a call that counts in the loop's own register, and a guarded call.
 pub fn units_of_a_sketch()
-    ensures works { works_of sketch ≡ set (scalar (codes "low")) 0xFFFFFFFF ∷ PlainWork.Call (call_in_loop (codes "count")) ∷ PlainWork.Call (call_in_loop (codes "least")) ∷ [] }
-    ensures lits { lits_of sketch ≡ [] ∷ [] ∷ [] ∷ [] }
-    ensures conds { conds_of sketch ≡ [] ∷ [] ∷ (is_less ∷ []) ∷ [] }
-    ensures loops { loops_of sketch ≡ (None, None, None) ∷ (Some 0, Some 0, Some (codes "i")) ∷ (Some 0, Some 0, Some (codes "i")) ∷ [] }
-    ensures reads { reads_of sketch ≡ [] ∷ (at_src ∷ own_meta (codes "idx") ∷ own_sketch ∷ own_meta (codes "cnt") ∷ []) ∷ (own_meta (codes "cnt") ∷ at_low ∷ []) ∷ [] }
-    ensures writes { writes_of sketch ≡ (at_low ∷ []) ∷ (own_meta (codes "idx") ∷ own_meta (codes "cnt") ∷ own_sketch ∷ []) ∷ (at_low ∷ []) ∷ [] }
-    ensures costs { costs_of sketch ≡ 1 ∷ 2 ∷ 1 ∷ [] }
-    ensures ops { ops_of sketch ≡ 0 ∷ 2 ∷ 1 ∷ [] }
-    ensures cells { cells_of sketch ≡ (None, 0) ∷ (Some (cells.Symbol 1), 32) ∷ (None, 0) ∷ [] }
-    ensures bits { bits_of sketch ≡ (0, 0) ∷ (0, 0) ∷ (0, 0) ∷ [] }
-    ensures fixed { fixed_bits sketch ≡ 145 }
-    ensures symbols { symbol_bits sketch ≡ 64 ∷ 0 ∷ [] }
+    ensures works { works_of count_min_sketch ≡ set (of_meta (codes "low")) 0xFFFFFFFF ∷ PlainWork.Call (call_in_row (codes "count")) ∷ PlainWork.Call (call_in_row (codes "least")) ∷ [] }
+    ensures lits { lits_of count_min_sketch ≡ [] ∷ [] ∷ [] ∷ [] }
+    ensures conds { conds_of count_min_sketch ≡ [] ∷ [] ∷ (is_less ∷ []) ∷ [] }
+    ensures loops { loops_of count_min_sketch ≡ (None, None, None) ∷ (Some 0, Some 0, Some (codes "i")) ∷ (Some 0, Some 0, Some (codes "i")) ∷ [] }
+    ensures reads { reads_of count_min_sketch ≡ [] ∷ (at_src ∷ own_meta (codes "idx") ∷ own_sketch ∷ own_meta (codes "cnt") ∷ []) ∷ (own_meta (codes "cnt") ∷ at_low ∷ []) ∷ [] }
+    ensures writes { writes_of count_min_sketch ≡ (at_low ∷ []) ∷ (own_meta (codes "idx") ∷ own_meta (codes "cnt") ∷ own_sketch ∷ []) ∷ (at_low ∷ []) ∷ [] }
+    ensures costs { costs_of count_min_sketch ≡ 1 ∷ 2 ∷ 1 ∷ [] }
+    ensures ops { ops_of count_min_sketch ≡ 0 ∷ 2 ∷ 1 ∷ [] }
+    ensures cells { cells_of count_min_sketch ≡ (None, 0) ∷ (Some (cells.Symbol 1), 32) ∷ (None, 0) ∷ [] }
+    ensures bits { bits_of count_min_sketch ≡ (0, 0) ∷ (0, 0) ∷ (0, 0) ∷ [] }
+    ensures fixed { fixed_bits count_min_sketch ≡ 145 }
+    ensures symbols { symbol_bits count_min_sketch ≡ 64 ∷ 0 ∷ [] }
 {}
 
 /// Each loop runs all its units at one index after the other; at size 0 it has no instance.
 pub fn instances_of_a_sketch()
-    ensures two_rows { instances_of sketch (sizes_of_sketch 2) ≡ (0, 0) ∷ (1, 0) ∷ (2, 0) ∷ (1, 1) ∷ (2, 1) ∷ [] }
-    ensures no_row { instances_of sketch (sizes_of_sketch 0) ≡ (0, 0) ∷ [] }
+    ensures two_rows { instances_of count_min_sketch (sizes_of_sketch 2) ≡ (0, 0) ∷ (1, 0) ∷ (2, 0) ∷ (1, 1) ∷ (2, 1) ∷ [] }
+    ensures no_row { instances_of count_min_sketch (sizes_of_sketch 0) ≡ (0, 0) ∷ [] }
 {}
 
 /// Orders of two units, of which the first is earlier.
 pub fn orders_of_two_units()
-    ensures two_registers { order_of_two 0 0 (units_of two_arrays) ≡ Some Relation.Free }
+    ensures two_registers { order_of_two 0 0 (units_of two_register_arrays) ≡ Some Relation.Free }
     ensures read_then_written { order_of_two 0 0 (then (PlainStmt.Assign a (get b)) (assign b 1)) ≡ Some Relation.NotAfter }
     ensures written_then_read { order_of_two 0 0 (then (assign a 1) (PlainStmt.Assign b (get a))) ≡ Some Relation.Before }
     ensures written_twice { order_of_two 0 0 (then (assign a 1) (assign a 2)) ≡ Some Relation.Before }
@@ -115,9 +116,9 @@ pub fn orders_of_two_units()
 
 /// Two reads of two registers: each takes a stateful unit, and the fields of a header count beside its validity.
 pub fn registers_of_two_units()
-    ensures cells { cells_of two_arrays ≡ (Some (cells.Symbol 0), 32) ∷ (Some (cells.Symbol 1), 32) ∷ [] }
-    ensures costs { costs_of two_arrays ≡ 1 ∷ 1 ∷ [] }
-    ensures fixed { fixed_bits two_arrays ≡ 73 }
+    ensures cells { cells_of two_register_arrays ≡ (Some (cells.Symbol 0), 32) ∷ (Some (cells.Symbol 1), 32) ∷ [] }
+    ensures costs { costs_of two_register_arrays ≡ 1 ∷ 1 ∷ [] }
+    ensures fixed { fixed_bits two_register_arrays ≡ 73 }
 {}
 
 /// A table of two entries with a key of 8 bits: a ternary key takes twice as many ternary bits, and `size` stands before the
@@ -151,12 +152,12 @@ pub fn units_of_a_call()
 
 /// A call that counts in a register of one cell, a guarded assignment and two plain ones.
 pub fn units_of_big_headers()
-    ensures reads { reads_of big_headers ≡ (location.Reg (codes "seen") false ∷ location.Meta (codes "n") false ∷ []) ∷ (at_big ∷ []) ∷ (at_big ∷ []) ∷ (at_std (codes "in_port") ∷ []) ∷ [] }
-    ensures writes { writes_of big_headers ≡ (location.Meta (codes "n") false ∷ location.Reg (codes "seen") false ∷ []) ∷ (at_std (codes "drop") ∷ []) ∷ (at_big ∷ []) ∷ (at_std (codes "out_port") ∷ []) ∷ [] }
-    ensures costs { costs_of big_headers ≡ 1 ∷ 1 ∷ 1 ∷ 1 ∷ [] }
-    ensures ops { ops_of big_headers ≡ 1 ∷ 1 ∷ 1 ∷ 0 ∷ [] }
-    ensures cells { cells_of big_headers ≡ (Some (cells.Fixed 1), 8) ∷ (None, 0) ∷ (None, 0) ∷ (None, 0) ∷ [] }
-    ensures fixed { fixed_bits big_headers ≡ 137 }
+    ensures reads { reads_of count_big_headers ≡ (location.Reg (codes "seen") false ∷ location.Meta (codes "n") false ∷ []) ∷ (at_big ∷ []) ∷ (at_big ∷ []) ∷ (at_std (codes "in_port") ∷ []) ∷ [] }
+    ensures writes { writes_of count_big_headers ≡ (location.Meta (codes "n") false ∷ location.Reg (codes "seen") false ∷ []) ∷ (at_std (codes "drop") ∷ []) ∷ (at_big ∷ []) ∷ (at_std (codes "out_port") ∷ []) ∷ [] }
+    ensures costs { costs_of count_big_headers ≡ 1 ∷ 1 ∷ 1 ∷ 1 ∷ [] }
+    ensures ops { ops_of count_big_headers ≡ 1 ∷ 1 ∷ 1 ∷ 0 ∷ [] }
+    ensures cells { cells_of count_big_headers ≡ (Some (cells.Fixed 1), 8) ∷ (None, 0) ∷ (None, 0) ∷ (None, 0) ∷ [] }
+    ensures fixed { fixed_bits count_big_headers ≡ 137 }
 {}
 
 /// What instances write, where everything holds 0 or 5 in 8 bits: a condition writes its predicate, a literal or condition that
@@ -183,7 +184,7 @@ pub fn memory_after_instances()
 /// Programs that meet what the laws of units ask.
 pub fn programs_that_fit()
     ensures tables { TablesFit (with_table true None) }
-    ensures loops { UnnestedAll (body_of sketch) false }
+    ensures loops { Unnested (body_of count_min_sketch) false }
 {}
 
 /// Elements and registers under their flat names.

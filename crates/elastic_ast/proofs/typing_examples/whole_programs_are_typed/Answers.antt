@@ -1,5 +1,15 @@
-use Rattle.elastic_ast.proofs.TypingRows.{sketch, entries, registers}
+use Rattle.elastic_ast.proofs.TypingRows.{sketch, entries, registers, typed_assignments, typed_branch, typed_blocks, typed_hash, typed_rows, typed_arrays}
 use Rattle.elastic_ast.proofs.typing_examples.whole_programs_are_typed.Goals as goal
 
 pub returns : goal.returns
-returns c = record { sketch = sketch; entries = entries; registers = registers }
+returns c = record {
+  sketch = sketch;
+  entries = entries;
+  registers = registers;
+  assignments = typed_assignments;
+  branch = typed_branch;
+  blocks = typed_blocks;
+  hash = typed_hash;
+  rows = typed_rows;
+  arrays = typed_arrays;
+}
