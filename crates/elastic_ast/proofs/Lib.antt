@@ -28,3 +28,5 @@ pub mod Exchange
 pub mod SamePieces
 pub mod KeptMeaning
 pub mod InstanceRuns
+pub mod LiveInstances
+pub mod PieceCounts

@@ -49,3 +49,5 @@ pub mod WorkedUnits
 pub mod Footprints
 pub mod Exchange
 pub mod CutMeaning
+pub mod LiveInstances
+pub mod PieceCounts

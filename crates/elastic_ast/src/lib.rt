@@ -38,7 +38,8 @@ pub use unit_examples::{
     units_of_validity, writes_of_instances,
 };
 pub use unit_laws::{
-    cut_keeps_the_meaning, free_neighbours_exchange, instances_have_footprints, lists_agree,
+    cut_keeps_the_meaning, free_neighbours_exchange, instances_are_kept, instances_have_footprints,
+    lists_agree, one_piece_is_counted,
 };
 pub use vector::Vector;
 pub use vector_law::{law_of_places, law_of_writes};
