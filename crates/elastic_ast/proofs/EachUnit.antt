@@ -23,15 +23,15 @@ pub all_more : {A : Type 0} (P Q : A → Type 0) → ((x : A) → P x → Q x) �
 all_more P Q f [] h = tt
 all_more P Q f (x ∷ xs) h = (f x h.0, all_more P Q f xs h.1)
 
-both_parts : {A : Type 0} (P : A → Type 0) (xs ys : List A) → AllBy P xs → AllBy P ys → AllBy P (xs ++ ys)
-both_parts P [] ys h g = g
-both_parts P (x ∷ xs) ys h g = (h.0, both_parts P xs ys h.1 g)
+pub all_both : {A : Type 0} (P : A → Type 0) (xs ys : List A) → AllBy P xs → AllBy P ys → AllBy P (xs ++ ys)
+all_both P [] ys h g = g
+all_both P (x ∷ xs) ys h g = (h.0, all_both P xs ys h.1 g)
 
 module _ (decls : List PlainDecl) where
   pub each_flat : (Q : PlainUnit → Type 0) → ((around : Option Around) (piece : Piece) → Q (unit_of decls around piece)) → (cuts : Cuts) (k : ℕ) → AllBy Q (flat decls cuts k)
   each_flat Q f Nil k = tt
   each_flat Q f (One u r) k = (f None u, each_flat Q f r k)
-  each_flat Q f (Loop i s b r) k = both_parts Q (map (unit_of decls (Some w)) (inner_pieces b)) (flat decls r (k + 1)) (go (inner_pieces b)) (each_flat Q f r (k + 1))
+  each_flat Q f (Loop i s b r) k = all_both Q (map (unit_of decls (Some w)) (inner_pieces b)) (flat decls r (k + 1)) (go (inner_pieces b)) (each_flat Q f r (k + 1))
     where
       w : Around
       w = record { number = k; index = i; size = s }
@@ -42,13 +42,13 @@ module _ (decls : List PlainDecl) where
 
   each_turned : (P : Instance → Type 0) (f : ℕ → List Instance) → ((i : ℕ) → AllBy P (f i)) → (m : ℕ) → AllBy P (each_turn m f)
   each_turned P f h zero = tt
-  each_turned P f h (suc m) = both_parts P (each_turn m f) (f m) (each_turned P f h m) (h m)
+  each_turned P f h (suc m) = all_both P (each_turn m f) (f m) (each_turned P f h m) (h m)
 
   each_cut : (P : Instance → Type 0) → ((n : ℕ) (piece : Piece) → P (record { number = n; index = 0; unit = unit_of decls None piece })) → ((n i : ℕ) (w : Around) (piece : Piece) → P (record { number = n; index = i; unit = unit_of decls (Some w) piece })) → (cuts : Cuts) (n k : ℕ) (z : ℕ → ℕ) → AllBy P (cut_instances decls cuts n k z)
   each_cut P f g Nil n k z = tt
   each_cut P f g (One u r) n k z = (f n u, each_cut P f g r (n + 1) k z)
   each_cut P f g (Loop i s b r) n k z =
-      both_parts P (each_turn (z (symbol_number decls s)) (at_index (numbered n (map (unit_of decls (Some w)) (inner_pieces b))))) (cut_instances decls r (n + length (inner_pieces b)) (k + 1) z)
+      all_both P (each_turn (z (symbol_number decls s)) (at_index (numbered n (map (unit_of decls (Some w)) (inner_pieces b))))) (cut_instances decls r (n + length (inner_pieces b)) (k + 1) z)
       (each_turned P (at_index (numbered n (map (unit_of decls (Some w)) (inner_pieces b)))) (λ j. go j (inner_pieces b) n) (z (symbol_number decls s)))
       (each_cut P f g r (n + length (inner_pieces b)) (k + 1) z)
     where

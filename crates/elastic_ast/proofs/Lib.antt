@@ -41,3 +41,5 @@ pub mod SamePieces
 pub mod KeptMeaning
 pub mod InstanceRuns
 pub mod TypedPremises
+pub mod LiveInstances
+pub mod PieceCounts

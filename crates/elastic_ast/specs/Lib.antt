@@ -62,3 +62,5 @@ pub mod Exchange
 pub mod Unnested
 pub mod CutMeaning
 pub mod WorkedTyping
+pub mod LiveInstances
+pub mod PieceCounts

@@ -20,7 +20,7 @@ use Rattle.elastic_ast.specs.Instances.{nth_size, instances}
 use Rattle.elastic_ast.specs.Work.{unit_writes, run}
 use Rattle.elastic_ast.specs.WorkedValues.{bare}
 use Rattle.elastic_ast.specs.WorkedProgram.{stmts, assign, is}
-use Rattle.elastic_ast.specs.WorkedSources.{bits, array, frame}
+use Rattle.elastic_ast.specs.WorkedSources.{bits, array, alone, frame}
 
 -- fields of `hdr.h`
 abbrev pub in_header : Name → Lval
@@ -249,3 +249,69 @@ writes_to decls number unit index at its = written_by (units_of decls) decls num
 abbrev pub after_all : List PlainDecl → ℕ → Location → Option ℕ → Word
 after_all decls number at its =
     run (instances (units_of decls) (nth_size (3 ∷ []))) decls (3 ∷ []) (filled number) (At (place at its))
+
+-- `if (hdr.h.a == 0) { if (hdr.h.b == 1) { hdr.h.a = 1; hdr.h.b = 2; } } else { if (hdr.h.b == 3) { hdr.h.a = 4; hdr.h.b = 5; } }`
+abbrev pub branches_in_branches : List PlainDecl
+branches_in_branches =
+    small (when_else (is a 0) (when (is b 1) (assign a 1 ∷ assign b 2 ∷ []) ∷ []) (when (is b 3) (assign a 4 ∷ assign b 5 ∷ []) ∷ []) ∷ [])
+
+-- two symbols `s` and `t` with an array each, and `for (j < t) { if (meta.f[j] == 0) { meta.f[j] = 1; meta.f[j] = 2; } }`
+abbrev pub f : Lval
+f = lval.Meta (codes "f") (Some (codes "j"))
+
+abbrev pub second_symbol : List PlainDecl
+second_symbol =
+    frame (PlainDecl.Symbol (codes "s") ∷ PlainDecl.Symbol (codes "t") ∷ []) (bits 8 (codes "a") ∷ [])
+    (array 8 (codes "s") (codes "e") ∷ array 16 (codes "t") (codes "f") ∷ []) [] []
+    (PlainStmt.For (codes "j") (codes "t") (stmts (when (is f 0) (assign f 1 ∷ assign f 2 ∷ []) ∷ [])) ∷ [])
+
+-- `ra.write(0, hdr.h.a);`, where `ra` has 4 cells
+abbrev pub only_writes : List PlainDecl
+only_writes =
+    frame [] (bits 8 (codes "a") ∷ []) [] (PlainDecl.Register (codes "ra") 8 (amount.Num 4) None ∷ []) []
+    (PlainStmt.Write (alone (codes "ra")) (bare 0) (get a) ∷ [])
+
+-- a table over `hdr.h.a` and `hdr.h.c` with two actions: `more(n)` adds 1 to `n`, and `sums()` has two operators
+abbrev pub more_action : PlainAction
+more_action =
+    record {
+      name = codes "more";
+      index = None;
+      params = record { name = codes "n"; width = 8 } ∷ [];
+      body = stmts (PlainStmt.Assign a (PlainExpr.Binary 13 (PlainExpr.Named (codes "n")) (bare 1)) ∷ []);
+    }
+
+abbrev pub sums_action : PlainAction
+sums_action =
+    record {
+      name = codes "sums";
+      index = None;
+      params = [];
+      body = stmts (PlainStmt.Assign b (PlainExpr.Binary 13 (PlainExpr.Binary 13 (get b) (get a)) (bare 1)) ∷ []);
+    }
+
+abbrev pub two_actions : PlainTable
+two_actions =
+    record {
+      name = codes "t";
+      keys = record { field = a; ternary = false } ∷ record { field = in_header (codes "c"); ternary = false } ∷ [];
+      actions = codes "more" ∷ codes "sums" ∷ [];
+      entries =
+          record {
+            keys = PlainKeyset.One (bare 1) ∷ PlainKeyset.One (bare 2) ∷ [];
+            action = codes "sums";
+            args = [];
+          }
+          ∷ [];
+      fallback = None;
+      size = Some 3;
+    }
+
+abbrev pub with_two_actions : List PlainDecl
+with_two_actions =
+    frame [] (bits 8 (codes "a") ∷ bits 8 (codes "b") ∷ bits 16 (codes "c") ∷ []) [] []
+    (PlainLocal.OfAction more_action ∷ PlainLocal.OfAction sums_action ∷ PlainLocal.OfTable two_actions ∷ [])
+    (when (is b 0) (PlainStmt.Apply (codes "t") ∷ []) ∷ [])
+
+abbrev pub at_c : Location
+at_c = location.Header (codes "h") (codes "c")

@@ -50,12 +50,13 @@ pub use typing_law::{
 pub use unit_examples::{
     bits_of_a_table, flat_names, instances_of_a_sketch, memory_after_instances,
     orders_of_two_units, programs_that_fit, registers_of_two_units, stages_of_blocks,
-    units_of_a_branch, units_of_a_call, units_of_a_sketch, units_of_big_headers,
-    units_of_conditions_over_more, units_of_conditions_over_one_unit, units_of_loops,
-    units_of_validity, writes_of_instances,
+    units_of_a_branch, units_of_a_call, units_of_a_register_write, units_of_a_sketch,
+    units_of_a_table_of_two_actions, units_of_big_headers, units_of_conditions_over_more,
+    units_of_conditions_over_one_unit, units_of_loops, units_of_validity, writes_of_instances,
 };
 pub use unit_laws::{
-    cut_keeps_the_meaning, free_neighbours_exchange, instances_have_footprints, lists_agree,
+    cut_keeps_the_meaning, free_neighbours_exchange, instances_are_kept, instances_have_footprints,
+    lists_agree, one_piece_is_counted,
 };
 pub use vector::Vector;
 pub use vector_law::{law_of_places, law_of_writes};

@@ -16,7 +16,7 @@ ghost use Rattle.elastic_ast.specs.Parts.{body_of};
 ghost use Rattle.elastic_ast.specs.FlatNames.{flat_name, SameRegisters};
 ghost use Rattle.elastic_ast.specs.WorkedProgram.{assign, is};
 ghost use Rattle.elastic_ast.specs.WorkedSources.{of_meta, call_in_row, is_less, count_min_sketch, two_register_arrays, count_big_headers};
-ghost use Rattle.elastic_ast.specs.WorkedUnits.{a, b, e, get, small, when, set, on, off, own_on, at_a, at_b, at_e, at_pred, lits_of, conds_of, works_of, reads_of, writes_of, costs_of, ops_of, stages_of, loops_of, cells_of, bits_of, order_of_two, order_of_turns, own_meta, own_sketch, at_low, at_src, sizes_of_sketch, with_table, branch, branch_in_branch, two_branches, loop_in_branch, branch_in_loop, blocks, element_in_loop, then, validity, call_with_argument, four_operators, at_big, at_std, writes_to, after_all};
+ghost use Rattle.elastic_ast.specs.WorkedUnits.{a, b, e, get, small, when, set, on, off, own_on, at_a, at_b, at_e, at_pred, lits_of, conds_of, works_of, reads_of, writes_of, costs_of, ops_of, stages_of, loops_of, cells_of, bits_of, order_of_two, order_of_turns, own_meta, own_sketch, at_low, at_src, sizes_of_sketch, with_table, branch, branch_in_branch, two_branches, loop_in_branch, branch_in_loop, blocks, element_in_loop, then, validity, call_with_argument, four_operators, at_big, at_std, writes_to, after_all, branches_in_branches, second_symbol, only_writes, with_two_actions, at_c};
 
 /// A condition over two statements is one condition unit and two guarded units.
 pub fn units_of_a_branch()
@@ -53,6 +53,8 @@ pub fn units_of_conditions_over_more()
     ensures nested_works { works_of branch_in_branch ≡ PlainWork.Pred 0 (is a 0) ∷ PlainWork.Pred 1 (is b 1) ∷ set a 3 ∷ PlainWork.Pred 2 (is b 2) ∷ set a 4 ∷ set b 5 ∷ [] }
     ensures nested_lits { lits_of branch_in_branch ≡ [] ∷ [] ∷ (on 0 ∷ []) ∷ [] ∷ (on 0 ∷ on 2 ∷ []) ∷ (on 0 ∷ on 2 ∷ []) ∷ [] }
     ensures nested_ops { ops_of branch_in_branch ≡ 2 ∷ 2 ∷ 1 ∷ 2 ∷ 3 ∷ 3 ∷ [] }
+    ensures deeper_works { works_of branches_in_branches ≡ PlainWork.Pred 0 (is a 0) ∷ PlainWork.Pred 1 (is b 1) ∷ set a 1 ∷ set b 2 ∷ PlainWork.Pred 2 (is b 3) ∷ set a 4 ∷ set b 5 ∷ [] }
+    ensures deeper_lits { lits_of branches_in_branches ≡ [] ∷ [] ∷ (on 0 ∷ on 1 ∷ []) ∷ (on 0 ∷ on 1 ∷ []) ∷ [] ∷ (off 0 ∷ on 2 ∷ []) ∷ (off 0 ∷ on 2 ∷ []) ∷ [] }
     ensures other_works { works_of two_branches ≡ PlainWork.Pred 0 (is a 0) ∷ set a 1 ∷ set b 2 ∷ [] }
     ensures other_lits { lits_of two_branches ≡ [] ∷ (on 0 ∷ []) ∷ (off 0 ∷ []) ∷ [] }
     ensures other_conds { conds_of two_branches ≡ [] ∷ [] ∷ (is b 1 ∷ []) ∷ [] }
@@ -71,6 +73,8 @@ pub fn units_of_loops()
     ensures inside_works { works_of branch_in_loop ≡ PlainWork.Pred 0 (is e 0) ∷ set e 1 ∷ set a 2 ∷ [] }
     ensures inside_lits { lits_of branch_in_loop ≡ [] ∷ (own_on 0 ∷ []) ∷ (own_on 0 ∷ []) ∷ [] }
     ensures inside_loops { loops_of branch_in_loop ≡ (Some 1, Some 0, Some (codes "i")) ∷ (Some 1, Some 0, Some (codes "i")) ∷ (Some 1, Some 0, Some (codes "i")) ∷ [] }
+    ensures second_loops { loops_of second_symbol ≡ (Some 0, Some 1, Some (codes "j")) ∷ (Some 0, Some 1, Some (codes "j")) ∷ (Some 0, Some 1, Some (codes "j")) ∷ [] }
+    ensures second_bits { symbol_bits second_symbol ≡ 8 ∷ 17 ∷ [] }
     ensures inside_fixed { fixed_bits branch_in_loop ≡ 17 }
     ensures inside_bits { symbol_bits branch_in_loop ≡ 9 ∷ [] }
 {}
@@ -148,6 +152,23 @@ pub fn units_of_a_call()
     ensures writes { writes_of call_with_argument ≡ (at_a ∷ []) ∷ [] }
     ensures ops { ops_of call_with_argument ≡ 1 ∷ [] }
     ensures operators { expr_ops four_operators ≡ 4 }
+{}
+
+/// A table under a condition: it has what all its actions read and write, and the operators of the action that has most.
+pub fn units_of_a_table_of_two_actions()
+    ensures reads { reads_of with_two_actions ≡ (at_b ∷ at_a ∷ at_c ∷ []) ∷ [] }
+    ensures writes { writes_of with_two_actions ≡ (at_a ∷ at_b ∷ []) ∷ [] }
+    ensures costs { costs_of with_two_actions ≡ 2 ∷ [] }
+    ensures ops { ops_of with_two_actions ≡ 3 ∷ [] }
+    ensures bits { bits_of with_two_actions ≡ (72, 0) ∷ [] }
+{}
+
+/// A unit that writes a register alone costs one stateless unit all the same.
+pub fn units_of_a_register_write()
+    ensures reads { reads_of only_writes ≡ (at_a ∷ location.Reg (codes "ra") false ∷ []) ∷ [] }
+    ensures writes { writes_of only_writes ≡ (location.Reg (codes "ra") false ∷ []) ∷ [] }
+    ensures costs { costs_of only_writes ≡ 1 ∷ [] }
+    ensures cells { cells_of only_writes ≡ (Some (cells.Fixed 4), 8) ∷ [] }
 {}
 
 /// A call that counts in a register of one cell, a guarded assignment and two plain ones.

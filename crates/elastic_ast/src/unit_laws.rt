@@ -2,6 +2,8 @@
 
 ghost use Rattle.elastic_ast.specs.CutInstances.{ListsAgree, ProgramListsAgree};
 ghost use Rattle.elastic_ast.specs.Footprints.{UnitsHaveFootprints, InstancesHaveFootprints};
+ghost use Rattle.elastic_ast.specs.LiveInstances.{InstancesAreKept};
+ghost use Rattle.elastic_ast.specs.PieceCounts.{OneIsCounted};
 ghost use Rattle.elastic_ast.specs.CutMeaning.{PiecesKeepTheMeaning, InstancesKeepTheMeaning};
 ghost use Rattle.elastic_ast.specs.Exchange.{OrderIsUndisturbed, OrderIsFree, FreeExchange};
 
@@ -30,4 +32,14 @@ pub fn free_neighbours_exchange()
 pub fn cut_keeps_the_meaning()
     ensures pieces { PiecesKeepTheMeaning }
     ensures instances { InstancesKeepTheMeaning }
+{}
+
+/// The instances at sizes are those at greater sizes, in the same order, whose index is below the size.
+pub fn instances_are_kept()
+    ensures { InstancesAreKept }
+{}
+
+/// Whether a body has exactly one piece, and no loop, is told by the text, whatever the numbers of the predicates.
+pub fn one_piece_is_counted()
+    ensures { OneIsCounted }
 {}
