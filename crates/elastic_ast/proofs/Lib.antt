@@ -11,6 +11,7 @@ pub mod TypedNames
 pub mod TypedTables
 pub mod TypedStays
 pub mod TypedHeaders
+pub mod TypedRegisters
 pub mod PlaceLaws
 pub mod EntryLaws
 pub mod SlotLaws
