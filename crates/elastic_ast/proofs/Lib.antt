@@ -12,6 +12,7 @@ pub mod TypedTables
 pub mod TypedStays
 pub mod TypedHeaders
 pub mod TypedRegisters
+pub mod TypedWidths
 pub mod PlaceLaws
 pub mod EntryLaws
 pub mod SlotLaws

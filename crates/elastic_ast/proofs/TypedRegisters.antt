@@ -21,7 +21,7 @@ use Rattle.elastic_ast.specs.AskedInStatements.{asks_register, asks_register_of,
 use Rattle.elastic_ast.specs.AskedInLocals.{option_names, param_name, asks_param, in_action, asks_action, asks_locals}
 use Rattle.elastic_ast.specs.NamedRegisters.{plain_registers, body_registers, registers_of_action, registers_of_table, action_registers, table_registers, Naming, unit_registers, units_registers, registers_in, named_registers, UnitNames, IsLooped, is_array, NamedTwice}
 use Rattle.elastic_ast.specs.Typed.{Typed}
-use Rattle.elastic_ast.proofs.TypedFacts.{parts, head_met, FoundAt, found_at, control_parts}
+use Rattle.elastic_ast.proofs.TypedFacts.{taken, parts, head_met, FoundAt, found_at, control_parts}
 use Rattle.elastic_ast.proofs.TypedNames.{same_self}
 use Rattle.elastic_ast.proofs.TypedTables.{local_asks, action_is}
 
@@ -204,12 +204,6 @@ pub record RegisterAt (ds : List PlainDecl) (register : Name) : Type 0 where
   pub cells : Amount
   pub size : Option Name
   pub here : slice_get ds number ≡ Some (PlainDecl.Register register width cells size)
-
-taken : (n : ℕ) (ds : List PlainDecl) (i : ℕ) (x : PlainDecl) → slice_get (take n ds) i ≡ Some x → slice_get ds i ≡ Some x
-taken zero ds i x e = cc
-taken (suc n) [] i x e = cc
-taken (suc n) (d ∷ ds) zero x e = e
-taken (suc n) (d ∷ ds) (suc i) x e = taken n ds i x e
 
 size_given : (name : Name) (x : PlainDecl) (size : Option Name) → register_size_in name x ≡ Some size → (width : ℕ) × (cells : Amount) × (other : Option Name) × (x ≡ PlainDecl.Register name width cells other)
 size_given name (PlainDecl.Register register width cells other) size h = by (same name register) refl h
