@@ -13,6 +13,7 @@ pub mod TypedStays
 pub mod TypedHeaders
 pub mod TypedRegisters
 pub mod TypedWidths
+pub mod TypedOperands
 pub mod PlaceLaws
 pub mod EntryLaws
 pub mod SlotLaws

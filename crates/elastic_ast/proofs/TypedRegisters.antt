@@ -1,8 +1,8 @@
 -- The registers of a typed program: what a unit names is declared, no two units name one register, a unit names one, and a
 -- unit in a loop names one of an array.
-use Rattle.std.proofs.Common.{◌≡◌, ◌≢◌, ℕ, zero, suc, ◌+◌, ◌<◌, ◌⊎◌, inl, inr, Bool, true, false, ◌&&◌, List, [], ◌∷◌, ◌++◌, map, take, length, get_or, Option, Some, None, refl, sym, ap, subst, ◌∙◌, true≢false, arith}
-use Rattle.std.specs.Prelude.{if◌then◌else◌, flat_map, slice_get, Contains, is_some, nat_eq, ◌==◌}
-use Rattle.std.specs.List.{list_all, list_any}
+use Rattle.std.proofs.Common.{◌≡◌, ◌≢◌, ℕ, zero, suc, ◌⊎◌, inl, inr, Bool, true, false, ◌&&◌, List, [], ◌∷◌, ◌++◌, map, take, Option, Some, None, refl, sym, ap, ◌∙◌, true≢false, arith}
+use Rattle.std.specs.Prelude.{if◌then◌else◌, flat_map, slice_get, Contains, is_some, ◌==◌}
+use Rattle.std.specs.List.{list_all}
 use Rattle.std.specs.Cmp.Lexicographic.{same_text}
 use Rattle.std.proofs.lemmas.Bool.Decides.{nat_tests}
 use Rattle.std.proofs.lemmas.List.Folds.{list_all-append}
@@ -14,11 +14,11 @@ use Rattle.elastic_ast.specs.Tree.{Name, PlainDecl, PlainExpr, PlainStmt, PlainS
 use Rattle.elastic_ast.specs.Scope.{same, found, Scope, top}
 use Rattle.elastic_ast.specs.LookUps.{register_size_in, register_size, action_in, table_in}
 use Rattle.elastic_ast.specs.Types.{lval_type}
-use Rattle.elastic_ast.specs.Demand.{Demand, Known, Alike, met, first_broken}
+use Rattle.elastic_ast.specs.Demand.{Demand, Known, Alike, first_broken}
 use Rattle.elastic_ast.specs.AskedOfNames.{asks_names}
 use Rattle.elastic_ast.specs.AskedInExpressions.{asks_index, asks_lval, asks_bits, asks_truth}
 use Rattle.elastic_ast.specs.AskedInStatements.{asks_register, asks_register_of, register_type, asks_cell, asks_read, asks_write, asks_loop, in_loop, asks_stmt, asks_stmts}
-use Rattle.elastic_ast.specs.AskedInLocals.{option_names, param_name, asks_param, in_action, asks_action, asks_locals}
+use Rattle.elastic_ast.specs.AskedInLocals.{option_names, param_name, asks_param, in_action, asks_action}
 use Rattle.elastic_ast.specs.NamedRegisters.{plain_registers, body_registers, registers_of_action, registers_of_table, action_registers, table_registers, Naming, unit_registers, units_registers, registers_in, named_registers, UnitNames, IsLooped, is_array, NamedTwice}
 use Rattle.elastic_ast.specs.Typed.{Typed}
 use Rattle.elastic_ast.proofs.TypedFacts.{taken, parts, head_met, FoundAt, found_at, control_parts}
@@ -238,9 +238,9 @@ named_is_declared allow ds t u register (naming, e, c) =
     let before = take p.number ds in
     let q = control_parts allow ds t p.number p.control p.locals p.body p.here in
     let actions : Actions allow before p.body p.locals =
-        λ name action f.
-        let at : FoundAt (action_in name) p.locals action = found_at (action_in name) p.locals action f in
-        local_asks allow before p.body [] p.locals q.1 at.number (PlainLocal.OfAction action) (at.here ∙ ap Some (action_is name at.at action at.gives_it))
+    λ name action f.
+    let at : FoundAt (action_in name) p.locals action = found_at (action_in name) p.locals action f in
+    local_asks allow before p.body [] p.locals q.1 at.number (PlainLocal.OfAction action) (at.here ∙ ap Some (action_is name at.at action at.gives_it))
     in
     let all = units_known allow before p.body p.locals actions (top before) refl false p.body q.2 in
     let known : is_register before register ≡ true = each_in (is_register before) naming.1 (each_is (names_registers before) (units_registers p.locals false p.body) all p.unit naming p.there) register c in

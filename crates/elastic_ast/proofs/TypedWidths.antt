@@ -1,6 +1,6 @@
 -- A typed expression has a width from 1 to 128, or none of its own, or is a boolean.
-use Rattle.std.proofs.Common.{◌≡◌, ℕ, zero, suc, ◌+◌, ◌-◌, ◌<◌, ◌≤◌, Bool, true, false, not, ◌&&◌, List, [], ◌∷◌, ◌++◌, take, length, get_or, Option, Some, None, refl, sym, ap, subst, ◌∙◌, true≢false, arith}
-use Rattle.std.specs.Prelude.{if◌then◌else◌, Contains, find, option_map, nat_le, nat_lt, ◌==◌}
+use Rattle.std.proofs.Common.{◌≡◌, ℕ, zero, suc, ◌+◌, ◌-◌, ◌≤◌, Bool, true, false, not, ◌&&◌, List, [], ◌∷◌, Option, Some, None, refl, sym, ap, ◌∙◌, true≢false, arith}
+use Rattle.std.specs.Prelude.{if◌then◌else◌, Contains, find, option_map, nat_le, nat_lt}
 use Rattle.std.proofs.lemmas.Bool.Decides.{nat_tests}
 use Rattle.elastic_ast.specs.declared.statements.Lval.{Lval}
 use Rattle.elastic_ast.specs.declared.statements.Lval.TheVariants as lval
@@ -10,10 +10,10 @@ use Rattle.elastic_ast.specs.Tree.{Name, PlainDecl, PlainExpr}
 use Rattle.elastic_ast.specs.Scope.{same, or_else, Scope}
 use Rattle.elastic_ast.specs.LookUps.{constant_of, header_fields, meta_fields, width_among, std_fields, std_width}
 use Rattle.elastic_ast.specs.Operators.{operator_of, Sort, Logic, Comparison, Shift, Joining, Arithmetic, sort_of}
-use Rattle.elastic_ast.specs.Types.{Ty, Bits, Bare, taking, of_width, both_widths, outcome, left_giver, right_giver, turned_type, lval_type, param_width, constant_width, named_type, type_of}
-use Rattle.elastic_ast.specs.Demand.{Demand, Wide, Fits, HasWidth, Number, Cut, met, first_broken, has_width, is_truth, is_cut}
-use Rattle.elastic_ast.specs.AskedInExpressions.{names_at, turned_giver, asks_turned, asks_sort, asks_cast, asks_expr}
-use Rattle.elastic_ast.proofs.TypedFacts.{wide_is, parts, head_met, IsMet}
+use Rattle.elastic_ast.specs.Types.{Ty, Bits, Bare, of_width, both_widths, outcome, left_giver, right_giver, turned_type, lval_type, param_width, constant_width, named_type, type_of}
+use Rattle.elastic_ast.specs.Demand.{Wide, Fits, HasWidth, Number, Cut, first_broken, has_width, is_truth, is_cut}
+use Rattle.elastic_ast.specs.AskedInExpressions.{names_at, turned_giver, asks_turned, asks_cast, asks_expr}
+use Rattle.elastic_ast.proofs.TypedFacts.{parts, head_met, IsMet}
 use Rattle.elastic_ast.proofs.TypedHeaders.{AreWide, GoodHeader, header_good, meta_good, constant_fits}
 use Rattle.elastic_ast.proofs.TypedStays.{operands}
 

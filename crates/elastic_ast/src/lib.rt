@@ -38,7 +38,8 @@ pub use typing_examples::{
     whole_programs_are_typed, widths_agree,
 };
 pub use typing_law::{
-    loops_do_not_nest, parsers_end_and_headers_are_declared, registers_are_apart, tables_run_what_they_list,
+    loops_do_not_nest, parsers_end_and_headers_are_declared, registers_are_apart,
+    tables_run_what_they_list,
 };
 pub use vector::Vector;
 pub use vector_law::{law_of_places, law_of_writes};
