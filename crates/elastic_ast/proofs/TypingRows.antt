@@ -9,7 +9,7 @@ use Rattle.elastic_ast.specs.Typed.{Breaks, Typed}
 use Rattle.elastic_ast.specs.WorkedValues.{bare, wide}
 use Rattle.elastic_ast.specs.WorkedProgram.{x, element, v, dropped, r, assign, byte_field, stmts, with_body}
 use Rattle.elastic_ast.specs.WorkedTyping.{frame, byte_and_word, taking_h, doing, with_locals, with_register, sized, parsing, state, goes_to, start, accept, y, named, set_x, sum, shifted, equal, turned, is_valid, over, plain_action, indexed_action, action_of_n, call, read_r, write_r, table_of_v, exact_table, ternary_table, one, at_least_one, constant, hash_below, steps, width_field, BreaksOnly}
-use Rattle.elastic_ast.specs.WorkedSources.{count_min_sketch, ternary_table as ternary_table_source, count_headers}
+use Rattle.elastic_ast.specs.WorkedSources.{count_min_sketch, sketch_and_cache, ternary_table as ternary_table_source, count_headers}
 use Rattle.elastic_ast.specs.Demand.{Known, Constant, fixed_names}
 use Rattle.elastic_ast.specs.LookUps.{std_fields}
 use Rattle.elastic_ast.specs.NamedRegisters.{Naming}
@@ -255,6 +255,10 @@ action_beside_a_table_names_a_register = is_typed false _ refl refl
 pub sketch : Typed false (count_min_sketch)
 unfolding broken_rule fixed_names std_fields
 sketch = is_typed false _ refl refl
+
+pub cache : Typed false (sketch_and_cache)
+unfolding broken_rule fixed_names std_fields
+cache = is_typed false _ refl refl
 
 pub entries : Typed false (ternary_table_source)
 unfolding broken_rule fixed_names std_fields

@@ -1,5 +1,5 @@
 -- Whole elastic programs, which are typed; this project's own.
-use Rattle.std.specs.Prelude.{ℕ, true, false, List, [], ◌∷◌, Option, Some, None, codes}
+use Rattle.std.specs.Prelude.{ℕ, true, false, List, [], ◌∷◌, ◌++◌, Option, Some, None, codes}
 use Rattle.elastic_ast.specs.declared.statements.Amount.TheVariants as amount
 use Rattle.elastic_ast.specs.declared.statements.Lval.{Lval}
 use Rattle.elastic_ast.specs.declared.statements.Lval.TheVariants as lval
@@ -64,21 +64,22 @@ count =
 abbrev pub least : PlainAction
 least = record { name = codes "least"; index = i; params = []; body = stmts (PlainStmt.Assign low (at cnt) ∷ []) }
 
--- A count-min sketch of `rows` rows and `cols` columns over the source address of Ethernet.
-abbrev pub count_min_sketch : List PlainDecl
-count_min_sketch =
+-- A count-min sketch of `rows` rows and `cols` columns over the source address of Ethernet, with more symbols, fields,
+-- registers, actions and statements behind its own.
+abbrev pub sketch_with : List PlainDecl → List Field → List PlainDecl → List PlainLocal → List PlainStmt → List PlainDecl
+sketch_with symbols fields registers locals body =
     PlainDecl.Include 0
     ∷ PlainDecl.Include 1
     ∷ PlainDecl.Symbol rows
     ∷ PlainDecl.Symbol cols
-    ∷ at_least_one rows
+    ∷ symbols ++ (at_least_one rows
     ∷ PlainDecl.Maximize (Lin (times 100 rows) ∷ Lin (times 1 cols) ∷ [])
     ∷ PlainDecl.Header (codes "eth_t") (field (codes "dst") 48 None ∷ field (codes "src") 48 None ∷ field (codes "kind") 16 None ∷ [])
     ∷ PlainDecl.Headers ((codes "eth_t", codes "eth") ∷ [])
-    ∷ PlainDecl.Meta (field (codes "idx") 32 (Some rows) ∷ field (codes "cnt") 32 (Some rows) ∷ field (codes "low") 32 None ∷ [])
+    ∷ PlainDecl.Meta (field (codes "idx") 32 (Some rows) ∷ field (codes "cnt") 32 (Some rows) ∷ field (codes "low") 32 None ∷ fields)
     ∷ PlainDecl.Register (codes "sketch") 32 (amount.Named cols) (Some rows)
-    ∷ PlainDecl.Parser (codes "P") (state (codes "start") (codes "eth" ∷ []) (PlainNext.To (codes "accept")) ∷ [])
-    ∷ PlainDecl.Control (codes "C") (PlainLocal.OfAction count ∷ PlainLocal.OfAction least ∷ [])
+    ∷ registers ++ (PlainDecl.Parser (codes "P") (state (codes "start") (codes "eth" ∷ []) (PlainNext.To (codes "accept")) ∷ [])
+    ∷ PlainDecl.Control (codes "C") (PlainLocal.OfAction count ∷ PlainLocal.OfAction least ∷ locals)
     (stmts
     (PlainStmt.Assign low (bare 0xFFFFFFFF)
     ∷ PlainStmt.For (codes "i") rows
@@ -86,10 +87,53 @@ count_min_sketch =
     (PlainStmt.Call (codes "count") i []
     ∷ PlainStmt.If (PlainExpr.Binary 4 (at cnt) (at low)) (stmts (PlainStmt.Call (codes "least") i [] ∷ []))
     ∷ []))
-    ∷ []))
+    ∷ body))
     ∷ PlainDecl.Deparser (codes "D") (codes "eth" ∷ [])
     ∷ PlainDecl.Main (codes "P") (codes "C") (codes "D")
-    ∷ []
+    ∷ []))
+
+-- the sketch alone
+abbrev pub count_min_sketch : List PlainDecl
+count_min_sketch = sketch_with [] [] [] [] []
+
+-- `meta.pos[j]`, `meta.old[j]`, `store[j]` and an Ethernet field
+abbrev pub j : Option Name
+j = Some (codes "j")
+
+abbrev pub pos : Lval
+pos = meta (codes "pos") j
+
+abbrev pub old : Lval
+old = meta (codes "old") j
+
+abbrev pub store : RegRef
+store = record { name = codes "store"; index = j }
+
+abbrev pub eth : Name → PlainExpr
+eth name = at (lval.Header (codes "eth") name)
+
+-- it keeps the destination and the kind in its way, and reads what stood there
+abbrev pub keep : PlainAction
+keep =
+    record {
+      name = codes "keep";
+      index = j;
+      params = [];
+      body =
+          stmts
+          (PlainStmt.Assign pos (PlainExpr.Hash (amount.Named (codes "j")) (eth (codes "dst")) (amount.Named (codes "slots")))
+          ∷ PlainStmt.Read old store (at pos)
+          ∷ PlainStmt.Write store (at pos) (PlainExpr.Binary 15 (eth (codes "dst")) (eth (codes "kind")))
+          ∷ []);
+    }
+
+-- The sketch, and a cache of `ways` ways with `slots` slots each.
+abbrev pub sketch_and_cache : List PlainDecl
+sketch_and_cache =
+    sketch_with (PlainDecl.Symbol (codes "ways") ∷ PlainDecl.Symbol (codes "slots") ∷ [])
+    (field (codes "pos") 32 (Some (codes "ways")) ∷ field (codes "old") 64 (Some (codes "ways")) ∷ [])
+    (PlainDecl.Register (codes "store") 64 (amount.Named (codes "slots")) (Some (codes "ways")) ∷ []) (PlainLocal.OfAction keep ∷ [])
+    (PlainStmt.For (codes "j") (codes "ways") (stmts (PlainStmt.Call (codes "keep") j [] ∷ [])) ∷ [])
 
 abbrev pub v : Lval
 v = lval.Header (codes "h") (codes "v")

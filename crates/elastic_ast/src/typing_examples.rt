@@ -10,7 +10,7 @@ ghost use Rattle.elastic_ast.specs.Typed.{Breaks, Typed};
 ghost use Rattle.elastic_ast.specs.WorkedValues.{bare, wide};
 ghost use Rattle.elastic_ast.specs.WorkedProgram.{x, element, v, dropped, r, assign, byte_field, stmts, with_body};
 ghost use Rattle.elastic_ast.specs.WorkedTyping.{frame, byte_and_word, taking_h, doing, with_locals, with_register, sized, parsing, state, goes_to, start, accept, y, named, set_x, sum, shifted, equal, turned, is_valid, over, plain_action, indexed_action, action_of_n, call, read_r, write_r, table_of_v, exact_table, ternary_table, one, at_least_one, constant, hash_below, steps, width_field, BreaksOnly};
-ghost use Rattle.elastic_ast.specs.WorkedSources.{count_min_sketch, ternary_table as ternary_table_source, count_headers};
+ghost use Rattle.elastic_ast.specs.WorkedSources.{count_min_sketch, sketch_and_cache, ternary_table as ternary_table_source, count_headers};
 
 /// Names: each is declared before it is used, once in its scope, and as what its place asks for.
 pub fn names_are_declared_once_and_known()
@@ -89,6 +89,7 @@ pub fn tables_and_calls_agree()
 /// Whole programs are typed.
 pub fn whole_programs_are_typed()
     ensures sketch { Typed false (count_min_sketch) }
+    ensures cache { Typed false (sketch_and_cache) }
     ensures entries { Typed false (ternary_table_source) }
     ensures registers { Typed false (count_headers) }
     ensures states_and_tables { Typed false (with_body (read_r ∷ PlainStmt.Apply (codes "t") ∷ PlainStmt.Apply (codes "u") ∷ [])) }
