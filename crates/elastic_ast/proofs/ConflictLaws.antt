@@ -1,12 +1,12 @@
 -- Where the pass over the units finds no conflict, no register is named twice.
-use Rattle.std.proofs.Common.{◌≡◌, ℕ, zero, suc, inl, inr, Bool, true, false, not, ◌&&◌, ◌||◌, List, [], ◌∷◌, ◌++◌, Some, None, refl, sym, ap, subst, ◌∙◌, true≢false, arith}
+use Rattle.std.proofs.Common.{◌≡◌, ◌≢◌, ℕ, zero, suc, ◌+◌, ◌<◌, ◌⊎◌, inl, inr, Bool, true, false, not, ◌&&◌, ◌||◌, List, [], ◌∷◌, ◌++◌, Option, Some, None, refl, sym, ap, subst, ◌∙◌, true≢false, arith}
 use Rattle.std.specs.Prelude.{if◌then◌else◌, slice_get, Contains}
 use Rattle.std.specs.List.{list_all}
 use Rattle.std.specs.Cmp.Lexicographic.{same_text, nat_list_eq_equiv}
 use Rattle.std.proofs.lemmas.List.Folds.{list_any-append}
 use Rattle.std.proofs.lemmas.Map.Views.{list_any-from_Contains}
 use Rattle.elastic_ast.specs.Tree.{Name, PlainDecl}
-use Rattle.elastic_ast.specs.Scope.{same, among}
+use Rattle.elastic_ast.specs.Scope.{same, among, or_else}
 use Rattle.elastic_ast.specs.Conflicts.{unit_conflict, conflict}
 use Rattle.elastic_ast.specs.NamedRegisters.{Naming, named_registers, is_array, NamedTwice}
 use Rattle.elastic_ast.proofs.TypedLaws.{none_both}
@@ -104,3 +104,95 @@ not_twice ds h r (inr (inl (u, a, l, n))) = true≢false (sym ((clean_at (is_arr
 not_twice ds h r (inr (inr (u, q, a, b, n))) =
     let s : a.0 ≡ b.0 = cc in
     n ((clean_at (is_array ds) [] (named_registers ds) h u a.0 a.1 r a.2).1 q (subst (λ z. Contains z.1 q) (sym s) b.2))
+
+-- And where the pass finds a conflict at a register, this register is named twice.
+
+-- the unit of a number names the register, in a list of units
+abbrev NamesIn : List Naming → ℕ → Name → Type 0
+NamesIn all u r = (x : Naming) × (slice_get all u ≡ Some x) × Contains x.1 r
+
+abbrev TwiceIn : (Name → Bool) → List Naming → Name → Type 0
+TwiceIn array all r =
+    ((u v : ℕ) × NamesIn all u r × NamesIn all v r × (u ≢ v))
+    ⊎ ((u : ℕ) × NamesIn all u r × ((ns : List Name) × (slice_get all u ≡ Some (true, ns))) × (array r ≡ false))
+    ⊎ ((u : ℕ) × (q : Name) × NamesIn all u r × NamesIn all u q × (q ≢ r))
+
+in_list : (r : Name) (ns : List Name) → among ns r ≡ true → Contains ns r
+in_list r [] h = cc
+in_list r (n ∷ ns) h = by (same r n) refl h (in_list r ns)
+  where
+    by : (b : Bool) → same r n ≡ b → (b || among ns r) ≡ true → (among ns r ≡ true → Contains ns r) → Contains (n ∷ ns) r
+    by true e k ih = (0, omega arith, sym (same_text r n (sym e)))
+    by false e k ih = let c : Contains ns r = ih k in (suc c.0, omega (arith, c.1), c.2)
+
+-- not all are the same: there is another one
+other_one : (m : Name) (ns : List Name) → list_all (same m) ns ≡ false → (q : Name) × Contains ns q × (q ≢ m)
+other_one m [] h = cc
+other_one m (n ∷ ns) h = by (same m n) refl h (other_one m ns)
+  where
+    same_self : same m m ≡ true
+    same_self = or_nothing (same m m) (among_in (m ∷ []) m (0, omega arith, refl))
+      where
+        or_nothing : (b : Bool) → (b || false) ≡ true → b ≡ true
+        or_nothing true k = refl
+        or_nothing false k = k
+
+    by : (b : Bool) → same m n ≡ b → (b && list_all (same m) ns) ≡ false → (list_all (same m) ns ≡ false → (q : Name) × Contains ns q × (q ≢ m)) → (q : Name) × Contains (n ∷ ns) q × (q ≢ m)
+    by true e k ih = let p = ih k in (p.0, (suc p.1.0, omega (arith, p.1.1), p.1.2), p.2)
+    by false e k ih = (n, (0, omega arith, refl), λ z. true≢false (sym (ap (same m) z ∙ same_self) ∙ e))
+
+-- what is wrong with a unit
+unit_wrong : (array : Name → Bool) (before : List Name) (looped : Bool) (ns : List Name) (r : Name) → unit_conflict array before looped ns ≡ Some r
+    → Contains ns r × (((q : Name) × Contains ns q × (q ≢ r)) ⊎ (among before r ≡ true) ⊎ ((looped ≡ true) × (array r ≡ false)))
+unit_wrong array before looped [] r h = cc
+unit_wrong array before looped (n ∷ ns) r h = by (list_all (same n) ns) (among before n) looped (array n) refl refl refl refl h
+  where
+    by : (a b c d : Bool) → list_all (same n) ns ≡ a → among before n ≡ b → looped ≡ c → array n ≡ d → (if not a || (b || (c && not d)) then Some n else None) ≡ Some r
+        → Contains (n ∷ ns) r × (((q : Name) × Contains (n ∷ ns) q × (q ≢ r)) ⊎ (among before r ≡ true) ⊎ ((looped ≡ true) × (array r ≡ false)))
+    by false b c d p q s t h =
+        let e : n ≡ r = cc in
+        let o = other_one n ns p in
+        ((0, omega arith, e), inl (o.0, (suc o.1.0, omega (arith, o.1.1), o.1.2), λ z. o.2 (z ∙ sym e)))
+    by true true c d p q s t h = let e : n ≡ r = cc in ((0, omega arith, e), inr (inl (ap (among before) (sym e) ∙ q)))
+    by true false true false p q s t h = let e : n ≡ r = cc in ((0, omega arith, e), inr (inr (s, ap array (sym e) ∙ t)))
+    by true false true true p q s t h = cc
+    by true false false d p q s t h = cc
+
+module _ (array : Name → Bool) (all : List Naming) where
+  -- the units to come stand behind the number k, and those before it name what was named
+  abbrev Named : ℕ → List Name → Type 0
+  Named k before = (r : Name) → among before r ≡ true → (u : ℕ) × (u < k) × NamesIn all u r
+
+  abbrev Behind : ℕ → List Naming → Type 0
+  Behind k us = (j : ℕ) (x : Naming) → slice_get us j ≡ Some x → slice_get all (k + j) ≡ Some x
+
+  here : (k : ℕ) (y : Naming) (us : List Naming) → Behind k (y ∷ us) → slice_get all k ≡ Some y
+  here k y us behind = ap (slice_get all) (omega arith) ∙ behind 0 y refl
+
+  named_more : (k : ℕ) (before : List Name) (y : Naming) (us : List Naming) → Behind k (y ∷ us) → Named k before → Named (suc k) (y.1 ++ before)
+  named_more k before y us behind named r h = by (among y.1 r) refl (sym (list_any-append (same r) y.1 before) ∙ h)
+    where
+      by : (b : Bool) → among y.1 r ≡ b → (b || among before r) ≡ true → (u : ℕ) × (u < suc k) × NamesIn all u r
+      by true e p = (k, omega arith, (y, here k y us behind, in_list r y.1 e))
+      by false e p = let n = named r p in (n.0, omega (arith, n.1), n.2)
+
+  wrong_here : (k : ℕ) (before : List Name) (y : Naming) (r : Name) → slice_get all k ≡ Some y → Named k before
+      → Contains y.1 r × (((q : Name) × Contains y.1 q × (q ≢ r)) ⊎ (among before r ≡ true) ⊎ ((y.0 ≡ true) × (array r ≡ false))) → TwiceIn array all r
+  wrong_here k before y r at named (c, inl (q, d, n)) = inr (inr (k, q, (y, at, c), (y, at, d), n))
+  wrong_here k before y r at named (c, inr (inl h)) = let n = named r h in inl (n.0, k, n.2, (y, at, c), λ z. omega (arith, n.1, z))
+  wrong_here k before y r at named (c, inr (inr (l, a))) = inr (inl (k, (y, at, c), (y.1, at ∙ ap (λ b. Some (b, y.1)) l), a))
+
+  twice_in : (k : ℕ) (before : List Name) (us : List Naming) (r : Name) → Behind k us → Named k before → conflict array before us ≡ Some r → TwiceIn array all r
+  twice_in k before [] r behind named h = cc
+  twice_in k before (y ∷ us) r behind named h = by (unit_conflict array before y.0 y.1) refl h (λ g. twice_in (suc k) (y.1 ++ before) us r rest (named_more k before y us behind named) g)
+    where
+      rest : Behind (suc k) us
+      rest j x e = ap (slice_get all) (omega arith) ∙ behind (suc j) x e
+
+      by : (o : Option Name) → unit_conflict array before y.0 y.1 ≡ o → or_else o (conflict array (y.1 ++ before) us) ≡ Some r → (conflict array (y.1 ++ before) us ≡ Some r → TwiceIn array all r) → TwiceIn array all r
+      by (Some n) e g ih = wrong_here k before y r (here k y us behind) named (unit_wrong array before y.0 y.1 r (e ∙ g))
+      by None e g ih = ih g
+
+-- so the pass decides whether a register is named twice
+pub named_twice : (ds : List PlainDecl) (r : Name) → conflict (is_array ds) [] (named_registers ds) ≡ Some r → NamedTwice ds r
+named_twice ds r h = twice_in (is_array ds) (named_registers ds) 0 [] (named_registers ds) r (λ j x e. ap (slice_get (named_registers ds)) (omega arith) ∙ e) (λ q k. absurd (true≢false (sym k))) h

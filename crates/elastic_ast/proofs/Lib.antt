@@ -11,6 +11,9 @@ pub mod TypedNames
 pub mod TypedTables
 pub mod TypedStays
 pub mod TypedHeaders
+pub mod TypedRegisters
+pub mod TypedWidths
+pub mod TypedOperands
 pub mod PlaceLaws
 pub mod EntryLaws
 pub mod SlotLaws

@@ -1,5 +1,5 @@
 -- What a typed program has: its demands are met, and what follows for its loops, tables, headers, names and widths.
-use Rattle.std.proofs.Common.{◌≡◌, ℕ, suc, ◌≤◌, inl, Bool, true, false, ◌&&◌, List, [], ◌∷◌, ◌++◌, map, take, Option, Some, None, refl, sym, ap, ◌∙◌, true≢false, arith}
+use Rattle.std.proofs.Common.{◌≡◌, ℕ, zero, suc, ◌≤◌, inl, Bool, true, false, ◌&&◌, List, [], ◌∷◌, ◌++◌, map, take, Option, Some, None, refl, sym, ap, ◌∙◌, true≢false, arith}
 use Rattle.std.specs.Prelude.{if◌then◌else◌, slice_get, Contains, is_some, is_none, option_and_then, unwrap_or, nat_le}
 use Rattle.std.proofs.lemmas.Bool.Decides.{nat_tests}
 use Rattle.elastic_ast.specs.declared.rule.Rule.{Rule}
@@ -44,10 +44,34 @@ if_met false r o h = cc
 pub head_met : (allow : Bool) (q : Demand) (qs : List Demand) → first_broken allow (q ∷ qs) ≡ None → (met allow q ≡ true) × (first_broken allow qs ≡ None)
 head_met allow q qs h = if_met (met allow q) (rule_of q) (first_broken allow qs) h
 
+-- what each declaration asks is met; the rules of the whole program may be broken
+abbrev pub IsMet : Bool → List PlainDecl → Type 0
+IsMet allow ds = (d : ℕ) (x : PlainDecl) → slice_get ds d ≡ Some x → first_broken allow (asked (take d ds) x) ≡ None
+
 -- what a declaration asks beside its name
+pub met_own : (allow : Bool) (ds : List PlainDecl) → IsMet allow ds → (d : ℕ) (x : PlainDecl) → slice_get ds d ≡ Some x → first_broken allow (asks_decl (take d ds) x) ≡ None
+met_own allow ds t d x e =
+    (head_met allow (First (is_first (take d ds) x)) (asks_decl (take d ds) x)
+    (parts allow (asks_names (top_names (take d ds)) (top_name x)) (First (is_first (take d ds) x) ∷ asks_decl (take d ds) x) (t d x e)).1).1
+
 pub typed_own : (allow : Bool) (ds : List PlainDecl) → Typed allow ds → (d : ℕ) (x : PlainDecl) → slice_get ds d ≡ Some x → first_broken allow (asks_decl (take d ds) x) ≡ None
-typed_own allow ds t d x e =
-    (head_met allow (First (is_first (take d ds) x)) (asks_decl (take d ds) x) (parts allow (asks_names (top_names (take d ds)) (top_name x)) (First (is_first (take d ds) x) ∷ asks_decl (take d ds) x) (typed_asks allow ds t d x e)).1).1
+typed_own allow ds t d x e = met_own allow ds (typed_asks allow ds t) d x e
+
+-- a front of the declarations asks no more than all of them
+pub taken : (n : ℕ) (ds : List PlainDecl) (i : ℕ) (x : PlainDecl) → slice_get (take n ds) i ≡ Some x → slice_get ds i ≡ Some x
+taken zero ds i x e = cc
+taken (suc n) [] i x e = cc
+taken (suc n) (d ∷ ds) zero x e = e
+taken (suc n) (d ∷ ds) (suc i) x e = taken n ds i x e
+
+take_take : (n : ℕ) (ds : List PlainDecl) (i : ℕ) (x : PlainDecl) → slice_get (take n ds) i ≡ Some x → take i (take n ds) ≡ take i ds
+take_take zero ds i x e = cc
+take_take (suc n) [] i x e = cc
+take_take (suc n) (d ∷ ds) zero x e = refl
+take_take (suc n) (d ∷ ds) (suc i) x e = ap (λ z. d ∷ z) (take_take n ds i x e)
+
+pub front_met : (allow : Bool) (ds : List PlainDecl) → IsMet allow ds → (n : ℕ) → IsMet allow (take n ds)
+front_met allow ds t n d x e = ap (λ z. first_broken allow (asked z x)) (take_take n ds d x e) ∙ t d x (taken n ds d x e)
 
 -- a width that is asked for is one
 and_left : (a b : Bool) → (a && b) ≡ true → a ≡ true

@@ -14,7 +14,7 @@ use Rattle.elastic_ast.specs.Demand.{Known, Wide, Fits, Bytes, first_broken}
 use Rattle.elastic_ast.specs.AskedOfNames.{asks_names, asks_symbol, asks_amount}
 use Rattle.elastic_ast.specs.Asked.{field_name, asks_decl, asks_field, asks_width, asks_member, asks_named_header, asks_next, asks_state, asks_structs}
 use Rattle.elastic_ast.specs.Typed.{Typed}
-use Rattle.elastic_ast.proofs.TypedFacts.{wide_is, parts, head_met, typed_own, if_some, FoundAt, found_at}
+use Rattle.elastic_ast.proofs.TypedFacts.{wide_is, parts, head_met, typed_own, IsMet, met_own, if_some, FoundAt, found_at}
 use Rattle.elastic_ast.proofs.TypedNames.{Distinct, names_distinct}
 use Rattle.elastic_ast.proofs.TypedTables.{item_met}
 use Rattle.elastic_ast.proofs.TypedStays.{member_stays}
@@ -45,14 +45,14 @@ headers_given (PlainDecl.Control n ls b) members h = cc
 headers_given (PlainDecl.Deparser n es) members h = cc
 headers_given (PlainDecl.Main p c d) members h = cc
 
-pub members_distinct : (allow : Bool) (ds : List PlainDecl) → Typed allow ds → Distinct (map member_name (members_of ds))
+pub members_distinct : (allow : Bool) (ds : List PlainDecl) → IsMet allow ds → Distinct (map member_name (members_of ds))
 members_distinct allow ds t = by (found members_in ds) refl
   where
     by : (o : Option (List (Name × Name))) → found members_in ds ≡ o → Distinct (map member_name (unwrap_or o []))
     by None e = none_distinct
     by (Some members) e =
         let f : FoundAt members_in ds members = found_at members_in ds members e in
-        let own = typed_own allow ds t f.number (PlainDecl.Headers members) (f.here ∙ ap Some (headers_given f.at members f.gives_it)) in
+        let own = met_own allow ds t f.number (PlainDecl.Headers members) (f.here ∙ ap Some (headers_given f.at members f.gives_it)) in
         names_distinct allow [] (map member_name members) (parts allow (asks_names [] (map member_name members)) (flat_map (asks_member (take f.number ds)) members) own).0
 
 -- the fields of a header type
@@ -80,7 +80,7 @@ pub record GoodHeader (fields : List Field) : Type 0 where
 no_header : GoodHeader []
 no_header = record { distinct = none_distinct; wide = none_wide; bytes = refl }
 
-pub type_good : (allow : Bool) (ds : List PlainDecl) → Typed allow ds → (name : Name) → GoodHeader (fields_of_type ds name)
+pub type_good : (allow : Bool) (ds : List PlainDecl) → IsMet allow ds → (name : Name) → GoodHeader (fields_of_type ds name)
 type_good allow ds t name = by (found (header_type_in name) ds) refl
   where
     by : (o : Option (List Field)) → found (header_type_in name) ds ≡ o → GoodHeader (unwrap_or o [])
@@ -88,7 +88,7 @@ type_good allow ds t name = by (found (header_type_in name) ds) refl
     by (Some fields) e =
         let f : FoundAt (header_type_in name) ds fields = found_at (header_type_in name) ds fields e in
         let g = type_given name f.at fields f.gives_it in
-        let own = typed_own allow ds t f.number (PlainDecl.Header g.0 fields) (f.here ∙ ap Some g.1) in
+        let own = met_own allow ds t f.number (PlainDecl.Header g.0 fields) (f.here ∙ ap Some g.1) in
         let p = parts allow (asks_names [] (map field_name fields)) (flat_map asks_width fields ++ (Bytes (header_bits fields) ∷ [])) own in
         let q = parts allow (flat_map asks_width fields) (Bytes (header_bits fields) ∷ []) p.1 in
         record {
@@ -97,7 +97,7 @@ type_good allow ds t name = by (found (header_type_in name) ds) refl
           bytes = (head_met allow (Bytes (header_bits fields)) [] q.1).0;
         }
 
-pub header_good : (allow : Bool) (ds : List PlainDecl) → Typed allow ds → (header : Name) → GoodHeader (header_fields ds header)
+pub header_good : (allow : Bool) (ds : List PlainDecl) → IsMet allow ds → (header : Name) → GoodHeader (header_fields ds header)
 header_good allow ds t header = by (find (λ (member : Name × Name). same header member.1) (members_of ds))
   where
     by : (o : Option (Name × Name)) → GoodHeader (unwrap_or (option_map (λ (member : Name × Name). fields_of_type ds member.0) o) [])
@@ -120,14 +120,14 @@ meta_given (PlainDecl.Control n ls b) fields h = cc
 meta_given (PlainDecl.Deparser n es) fields h = cc
 meta_given (PlainDecl.Main p c d) fields h = cc
 
-pub meta_good : (allow : Bool) (ds : List PlainDecl) → Typed allow ds → Distinct (map field_name (meta_fields ds)) × AreWide (meta_fields ds)
+pub meta_good : (allow : Bool) (ds : List PlainDecl) → IsMet allow ds → Distinct (map field_name (meta_fields ds)) × AreWide (meta_fields ds)
 meta_good allow ds t = by (found meta_in ds) refl
   where
     by : (o : Option (List Field)) → found meta_in ds ≡ o → Distinct (map field_name (unwrap_or o [])) × AreWide (unwrap_or o [])
     by None e = (none_distinct, none_wide)
     by (Some fields) e =
         let f : FoundAt meta_in ds fields = found_at meta_in ds fields e in
-        let own = typed_own allow ds t f.number (PlainDecl.Meta fields) (f.here ∙ ap Some (meta_given f.at fields f.gives_it)) in
+        let own = met_own allow ds t f.number (PlainDecl.Meta fields) (f.here ∙ ap Some (meta_given f.at fields f.gives_it)) in
         let p = parts allow (asks_names [] (map field_name fields)) (flat_map (asks_field (take f.number ds)) fields) own in (
           names_distinct allow [] (map field_name fields) p.0,
           λ field c. wide_is field.width (head_met allow (Wide field.width) (asks_symbol (take f.number ds) field.size) (item_met allow (asks_field (take f.number ds)) fields p.1 field c)).0,
@@ -150,10 +150,10 @@ register_given name (PlainDecl.Control n ls b) width h allow before k = cc
 register_given name (PlainDecl.Deparser n es) width h allow before k = cc
 register_given name (PlainDecl.Main p c d) width h allow before k = cc
 
-pub register_wide : (allow : Bool) (ds : List PlainDecl) → Typed allow ds → (name : Name) (width : ℕ) → register_width ds name ≡ Some width → (1 ≤ width) × (width ≤ 128)
+pub register_wide : (allow : Bool) (ds : List PlainDecl) → IsMet allow ds → (name : Name) (width : ℕ) → register_width ds name ≡ Some width → (1 ≤ width) × (width ≤ 128)
 register_wide allow ds t name width h =
     let f : FoundAt (register_in name) ds width = found_at (register_in name) ds width h in
-    register_given name f.at width f.gives_it allow (take f.number ds) (typed_own allow ds t f.number f.at f.here)
+    register_given name f.at width f.gives_it allow (take f.number ds) (met_own allow ds t f.number f.at f.here)
 
 -- a constant is below 2 to its width
 abbrev IsConstant : ℕ × ℕ → Type 0
@@ -179,11 +179,11 @@ constant_given name (PlainDecl.Control n ls b) constant h allow before k = cc
 constant_given name (PlainDecl.Deparser n es) constant h allow before k = cc
 constant_given name (PlainDecl.Main p c d) constant h allow before k = cc
 
-pub constant_fits : (allow : Bool) (ds : List PlainDecl) → Typed allow ds → (name : Name) (constant : ℕ × ℕ) → constant_of ds name ≡ Some constant
+pub constant_fits : (allow : Bool) (ds : List PlainDecl) → IsMet allow ds → (name : Name) (constant : ℕ × ℕ) → constant_of ds name ≡ Some constant
     → (1 ≤ constant.0) × (constant.0 ≤ 128) × (nat_lt constant.1 (2 ^ constant.0) ≡ true)
 constant_fits allow ds t name constant h =
     let f : FoundAt (constant_in name) ds constant = found_at (constant_in name) ds constant h in
-    constant_given name f.at constant f.gives_it allow (take f.number ds) (typed_own allow ds t f.number f.at f.here)
+    constant_given name f.at constant f.gives_it allow (take f.number ds) (met_own allow ds t f.number f.at f.here)
 
 -- the parser that `main` names
 parser_given : (name : Name) (x : PlainDecl) (states : List PlainState) → parser_in name x ≡ Some states → (parser : Name) × (x ≡ PlainDecl.Parser parser states)

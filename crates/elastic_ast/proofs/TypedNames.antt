@@ -34,7 +34,7 @@ or_left : (a b : Bool) → a ≡ true → (a || b) ≡ true
 or_left true b h = refl
 or_left false b h = cc
 
-same_self : (n : Name) → same n n ≡ true
+pub same_self : (n : Name) → same n n ≡ true
 same_self n = or_false (same n n) (list_any-from_Contains nat_list_eq_equiv n (n ∷ []) (0, omega arith, refl))
   where
     or_false : (b : Bool) → (b || false) ≡ true → b ≡ true

@@ -16,7 +16,7 @@ use Rattle.elastic_ast.specs.Footprints.{RunFits, EntriesFit, TableFits, TablesF
 use Rattle.elastic_ast.specs.TakenLocations.{are_apart, extracts_members, IsExtractable}
 use Rattle.elastic_ast.specs.ParserEnds.{IsLoopFree}
 use Rattle.elastic_ast.proofs.TakenLaws.{same_told}
-use Rattle.elastic_ast.proofs.TypedFacts.{parts, typed_own}
+use Rattle.elastic_ast.proofs.TypedFacts.{parts, typed_own, typed_asks}
 use Rattle.elastic_ast.proofs.TypedNames.{Distinct, names_new}
 use Rattle.elastic_ast.proofs.TypedTables.{entry_listed, fallback_listed, no_action_is_undeclared}
 use Rattle.elastic_ast.proofs.TypedHeaders.{header_good, ParserAt, parser_at, parser_ends, extracted_is_member}
@@ -57,7 +57,7 @@ pub extractable : (allow : Bool) (decls : List PlainDecl) → Typed allow decls 
 extractable allow decls typed = record {
   members = λ states e. all_by (extracts_members decls) states
       (λ state c. all_by (is_member decls) state.extracts (λ header k. extracted_is_member allow decls typed states e state c header k));
-  fields = λ header. apart (map field_name (header_fields decls header)) (header_good allow decls typed header).distinct;
+  fields = λ header. apart (map field_name (header_fields decls header)) (header_good allow decls (typed_asks allow decls typed) header).distinct;
 }
 
 no_reject : (allow : Bool) (names : List Name) → first_broken allow (asks_names [] names) ≡ None → among names (codes "reject") ≡ false

@@ -128,7 +128,7 @@ fallback_listed allow ds t name table h run e =
     (head_met allow (Listed (among (no_action_name ∷ table.actions) run.0)) (asks_run a.before a.locals run.0 run.1) f).0
 
 -- an action of a typed program, and what it asks after some declarations
-action_is : (name : Name) (x : PlainLocal) (action : PlainAction) → action_in name x ≡ Some action → x ≡ PlainLocal.OfAction action
+pub action_is : (name : Name) (x : PlainLocal) (action : PlainAction) → action_in name x ≡ Some action → x ≡ PlainLocal.OfAction action
 action_is name (PlainLocal.OfAction other) action h = ap PlainLocal.OfAction (if_some (same name other.name) other action h)
 action_is name (PlainLocal.OfTable table) action h = cc
 

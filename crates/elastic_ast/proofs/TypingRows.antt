@@ -7,9 +7,9 @@ use Rattle.elastic_ast.specs.declared.statements.Lval.TheVariants as lval
 use Rattle.elastic_ast.specs.Tree.{PlainDecl, PlainExpr, PlainStmt, PlainKeyset, PlainLocal, PlainNext}
 use Rattle.elastic_ast.specs.Typed.{Breaks, Typed}
 use Rattle.elastic_ast.specs.WorkedValues.{bare, wide}
-use Rattle.elastic_ast.specs.WorkedProgram.{x, element, v, dropped, r, assign, byte_field, stmts}
+use Rattle.elastic_ast.specs.WorkedProgram.{x, element, v, dropped, r, assign, byte_field, stmts, with_body}
 use Rattle.elastic_ast.specs.WorkedTyping.{frame, byte_and_word, taking_h, doing, with_locals, with_register, sized, parsing, state, goes_to, start, accept, y, named, set_x, sum, shifted, equal, turned, is_valid, over, plain_action, indexed_action, action_of_n, call, read_r, write_r, table_of_v, exact_table, ternary_table, one, at_least_one, constant, hash_below, steps, width_field, BreaksOnly}
-use Rattle.elastic_ast.specs.WorkedSources.{count_min_sketch, ternary_table as ternary_table_source, count_big_headers, swap_then_set, changed_condition, two_staged_blocks, hashed_header, counted_rows, two_register_arrays}
+use Rattle.elastic_ast.specs.WorkedSources.{count_min_sketch, sketch_and_cache, ternary_table as ternary_table_source, count_big_headers, swap_then_set, changed_condition, two_staged_blocks, hashed_header, counted_rows, two_register_arrays}
 use Rattle.elastic_ast.specs.Demand.{Known, Constant, fixed_names}
 use Rattle.elastic_ast.specs.LookUps.{std_fields}
 use Rattle.elastic_ast.specs.NamedRegisters.{Naming}
@@ -256,6 +256,10 @@ pub sketch : Typed false (count_min_sketch)
 unfolding broken_rule fixed_names std_fields
 sketch = is_typed false _ refl refl
 
+pub cache : Typed false (sketch_and_cache)
+unfolding broken_rule fixed_names std_fields
+cache = is_typed false _ refl refl
+
 pub entries : Typed false (ternary_table_source)
 unfolding broken_rule fixed_names std_fields
 entries = is_typed false _ refl refl
@@ -287,6 +291,10 @@ typed_rows = is_typed false _ refl refl
 pub typed_arrays : Typed false two_register_arrays
 unfolding broken_rule fixed_names std_fields
 typed_arrays = is_typed false _ refl refl
+
+pub states_and_tables : Typed false (with_body (read_r ∷ PlainStmt.Apply (codes "t") ∷ PlainStmt.Apply (codes "u") ∷ []))
+unfolding broken_rule fixed_names std_fields
+states_and_tables = is_typed false _ refl refl
 
 pub two_units_name_it : BreaksOnly (with_register [] (read_r ∷ write_r ∷ [])) RegisterTwice 3
 unfolding broken_rule fixed_names std_fields

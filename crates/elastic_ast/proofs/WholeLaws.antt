@@ -2,7 +2,8 @@
 use Rattle.std.proofs.Common.{◌≡◌, ℕ, zero, suc, ◌<◌, ◌≤◌, ◌⊎◌, inl, inr, Bool, true, false, not, ◌&&◌, ◌||◌, List, [], ◌∷◌, ◌++◌, take, Option, Some, None, refl, sym, ap, ◌∙◌, true≢false, arith, append_assoc}
 use Rattle.std.specs.Prelude.{slice_get, Contains, is_none, codes}
 use Rattle.std.specs.List.{list_any, list_all}
-use Rattle.std.specs.Cmp.Lexicographic.{same_text}
+use Rattle.std.specs.Cmp.Lexicographic.{same_text, nat_list_eq_equiv}
+use Rattle.std.proofs.lemmas.Map.Views.{list_any-from_Contains}
 use Rattle.elastic_ast.specs.declared.rule.Rule.{Rule}
 use Rattle.elastic_ast.specs.declared.rule.Rule.TheVariants.{RegisterTwice, RegisterUnused, ParserLoop, NoMain}
 use Rattle.elastic_ast.specs.Tree.{Name, PlainDecl, PlainState}
@@ -131,8 +132,29 @@ names_one r (u ∷ us) h = by (among u.1 r) refl h (names_one r us)
     by true e k ih = (0, u, refl, found_in r u.1 e)
     by false e k ih = let p : Names us r = ih k in (suc p.0, p.1, p.2, p.3)
 
-named_one : (ds : List PlainDecl) (r : Name) → is_named ds r ≡ true → IsUnnamed ds r → ⊥
+pub named_one : (ds : List PlainDecl) (r : Name) → is_named ds r ≡ true → IsUnnamed ds r → ⊥
 named_one ds r h n = let p : Names (named_registers ds) r = names_one r (named_registers ds) h in n p.0 (p.1, p.2, p.3)
+
+-- and one that no unit names is unnamed
+in_among : (r : Name) (ns : List Name) → Contains ns r → among ns r ≡ true
+in_among r [] c = absurd (omega arith)
+in_among r (n ∷ ns) (zero, k, e) = or_left (same r n) (among ns r) (ap (same r) e ∙ same_self r)
+  where
+    same_self : (n : Name) → same n n ≡ true
+    same_self n = or_nothing (same n n) (list_any-from_Contains nat_list_eq_equiv n (n ∷ []) (0, omega arith, refl))
+      where
+        or_nothing : (b : Bool) → (b || false) ≡ true → b ≡ true
+        or_nothing true k = refl
+        or_nothing false k = k
+in_among r (n ∷ ns) (suc i, k, e) = or_right (same r n) (among ns r) (in_among r ns (i, omega arith, e))
+
+names_any : (r : Name) (us : List Naming) (u : ℕ) (naming : Naming) → slice_get us u ≡ Some naming → Contains naming.1 r → list_any (λ (given : Naming). among given.1 r) us ≡ true
+names_any r [] u naming e c = cc
+names_any r (y ∷ us) zero naming e c = let s : y ≡ naming = cc in or_left (among y.1 r) (list_any (λ (given : Naming). among given.1 r) us) (ap (λ (z : Naming). among z.1 r) s ∙ in_among r naming.1 c)
+names_any r (y ∷ us) (suc u) naming e c = or_right (among y.1 r) (list_any (λ (given : Naming). among given.1 r) us) (names_any r us u naming e c)
+
+pub unnamed_one : (ds : List PlainDecl) (r : Name) → is_named ds r ≡ false → IsUnnamed ds r
+unnamed_one ds r h u (naming, e, c) = true≢false (sym (names_any r (named_registers ds) u naming e c) ∙ h)
 
 none_is : {A : Type 0} (o : Option A) → is_none o ≡ true → o ≡ None
 none_is None h = refl
@@ -144,6 +166,22 @@ lacks ds (PlainDecl.Control name locals body) h b = true≢false (sym h ∙ b)
 lacks ds (PlainDecl.Deparser name emits) h b = true≢false (sym h ∙ b)
 lacks ds (PlainDecl.Main parser control deparser) h b = true≢false (sym h ∙ b)
 lacks ds _ h b = b
+
+-- and where the test doesn't pass, it lacks its main or its parts
+pub lacks_main : (ds : List PlainDecl) (x : PlainDecl) → meets_main ds x ≡ false → LacksMain ds x
+lacks_main ds (PlainDecl.Parser name states) h = h
+lacks_main ds (PlainDecl.Control name locals body) h = h
+lacks_main ds (PlainDecl.Deparser name emits) h = h
+lacks_main ds (PlainDecl.Main parser control deparser) h = h
+lacks_main ds (PlainDecl.Include n) h = true≢false h
+lacks_main ds (PlainDecl.Symbol n) h = true≢false h
+lacks_main ds (PlainDecl.Assume cs) h = true≢false h
+lacks_main ds (PlainDecl.Maximize ts) h = true≢false h
+lacks_main ds (PlainDecl.Const n w v) h = true≢false h
+lacks_main ds (PlainDecl.Header n fs) h = true≢false h
+lacks_main ds (PlainDecl.Headers ms) h = true≢false h
+lacks_main ds (PlainDecl.Meta fs) h = true≢false h
+lacks_main ds (PlainDecl.Register n w c s) h = true≢false h
 
 -- Each rule of the whole program is met, or it is the one that is broken.
 pub record WholeBut (ds : List PlainDecl) (but : Rule) : Type 0 where

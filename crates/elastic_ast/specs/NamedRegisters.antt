@@ -15,20 +15,20 @@ abbrev pub body_registers : PlainStmts → List Name
 body_registers PlainStmts.nil = []
 body_registers (PlainStmts.cons first rest) = plain_registers first ++ body_registers rest
 
+abbrev pub registers_of_action : Option PlainAction → List Name
+registers_of_action None = []
+registers_of_action (Some action) = body_registers action.body
+
 abbrev pub action_registers : List PlainLocal → Name → List Name
-action_registers locals name = of (found (action_in name) locals)
-  where
-    of : Option PlainAction → List Name
-    of None = []
-    of (Some action) = body_registers action.body
+action_registers locals name = registers_of_action (found (action_in name) locals)
 
 -- those of all actions of a table
+abbrev pub registers_of_table : List PlainLocal → Option PlainTable → List Name
+registers_of_table locals None = []
+registers_of_table locals (Some table) = flat_map (action_registers locals) table.actions
+
 abbrev pub table_registers : List PlainLocal → Name → List Name
-table_registers locals name = of (found (table_in name) locals)
-  where
-    of : Option PlainTable → List Name
-    of None = []
-    of (Some table) = flat_map (action_registers locals) table.actions
+table_registers locals name = registers_of_table locals (found (table_in name) locals)
 
 -- a unit: whether it stands in a loop, and the registers that it names
 abbrev pub Naming : Type 0

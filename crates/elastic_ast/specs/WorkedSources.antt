@@ -211,17 +211,18 @@ call_in_row action = PlainStmt.Call action (Some (codes "i")) []
 abbrev pub is_less : PlainExpr
 is_less = PlainExpr.Binary 4 (at (of_row (codes "cnt"))) (at (of_meta (codes "low")))
 
-abbrev pub count_min_sketch : List PlainDecl
-count_min_sketch =
+-- the sketch, with more symbols, metadata, registers, actions and statements behind its own
+abbrev pub sketch_with : List PlainDecl → List Field → List PlainDecl → List PlainLocal → List PlainStmt → List PlainDecl
+sketch_with symbols metadata registers locals body =
     PlainDecl.Include 0
     ∷ PlainDecl.Include 1
     ∷ around (codes "eth_t") (codes "eth")
-    (PlainDecl.Symbol (codes "rows") ∷ PlainDecl.Symbol (codes "cols") ∷ at_least (codes "rows") 1
+    (PlainDecl.Symbol (codes "rows") ∷ PlainDecl.Symbol (codes "cols") ∷ (symbols ++ (at_least (codes "rows") 1
     ∷ PlainDecl.Maximize (util.Lin (times 100 (codes "rows")) ∷ util.Lin (times 1 (codes "cols")) ∷ [])
-    ∷ [])
+    ∷ [])))
     (bits 48 (codes "dst") ∷ bits 48 (codes "src") ∷ bits 16 (codes "kind") ∷ [])
-    (array 32 (codes "rows") (codes "idx") ∷ array 32 (codes "rows") (codes "cnt") ∷ bits 32 (codes "low") ∷ [])
-    (PlainDecl.Register (codes "sketch") 32 (amount.Named (codes "cols")) (Some (codes "rows")) ∷ [])
+    (array 32 (codes "rows") (codes "idx") ∷ array 32 (codes "rows") (codes "cnt") ∷ bits 32 (codes "low") ∷ metadata)
+    (PlainDecl.Register (codes "sketch") 32 (amount.Named (codes "cols")) (Some (codes "rows")) ∷ registers)
     (PlainLocal.OfAction record {
       name = codes "count";
       index = Some (codes "i");
@@ -238,8 +239,37 @@ count_min_sketch =
       params = [];
       body = stmts (PlainStmt.Assign (of_meta (codes "low")) (at (of_row (codes "cnt"))) ∷ []);
     }
-    ∷ [])
+    ∷ locals)
     (PlainStmt.Assign (of_meta (codes "low")) (bare 0xFFFFFFFF)
     ∷ PlainStmt.For (codes "i") (codes "rows")
     (stmts (call_in_row (codes "count") ∷ PlainStmt.If is_less (stmts (call_in_row (codes "least") ∷ [])) ∷ []))
+    ∷ body)
+
+abbrev pub count_min_sketch : List PlainDecl
+count_min_sketch = sketch_with [] [] [] [] []
+
+-- The sketch, and a cache of `ways` ways with `slots` slots each: `keep[j]` keeps the destination and the kind in its way, and
+-- reads what stood there.
+abbrev pub of_way : Name → Lval
+of_way name = lval.Meta name (Some (codes "j"))
+
+abbrev pub store_of_way : RegRef
+store_of_way = record { name = codes "store"; index = Some (codes "j") }
+
+abbrev pub sketch_and_cache : List PlainDecl
+sketch_and_cache =
+    sketch_with (PlainDecl.Symbol (codes "ways") ∷ PlainDecl.Symbol (codes "slots") ∷ [])
+    (array 32 (codes "ways") (codes "pos") ∷ array 64 (codes "ways") (codes "old") ∷ [])
+    (PlainDecl.Register (codes "store") 64 (amount.Named (codes "slots")) (Some (codes "ways")) ∷ [])
+    (PlainLocal.OfAction record {
+      name = codes "keep";
+      index = Some (codes "j");
+      params = [];
+      body = stmts
+          (PlainStmt.Assign (of_way (codes "pos")) (PlainExpr.Hash (amount.Named (codes "j")) (at (lval.Header (codes "eth") (codes "dst"))) (amount.Named (codes "slots")))
+          ∷ PlainStmt.Read (of_way (codes "old")) store_of_way (at (of_way (codes "pos")))
+          ∷ PlainStmt.Write store_of_way (at (of_way (codes "pos"))) (PlainExpr.Binary 15 (at (lval.Header (codes "eth") (codes "dst"))) (at (lval.Header (codes "eth") (codes "kind"))))
+          ∷ []);
+    }
     ∷ [])
+    (PlainStmt.For (codes "j") (codes "ways") (stmts (PlainStmt.Call (codes "keep") (Some (codes "j")) [] ∷ [])) ∷ [])

@@ -44,7 +44,7 @@ pub use typing_examples::{
     whole_programs_are_typed, widths_agree,
 };
 pub use typing_law::{
-    parsers_end_and_headers_are_declared, tables_run_what_they_list,
+    parsers_end_and_headers_are_declared, registers_are_apart, tables_run_what_they_list,
     typed_programs_meet_the_premises,
 };
 pub use unit_examples::{

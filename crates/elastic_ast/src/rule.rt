@@ -33,7 +33,7 @@ pub enum Rule {
     RegisterUnused,
     /// An action of a table names a register.
     RegisterInTable,
-    /// An exact key's set isn't one number, or the number of sets isn't that of the keys.
+    /// An exact key's set isn't one number, the number of sets isn't that of the keys, or a `select` is over what has no width.
     BadKey,
     /// A table's entries, size or actions don't fit one another.
     BadEntries,

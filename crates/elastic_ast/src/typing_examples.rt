@@ -8,9 +8,9 @@ ghost use Rattle.elastic_ast.specs.declared.statements.Lval.TheVariants as lval;
 ghost use Rattle.elastic_ast.specs.Tree.{PlainDecl, PlainExpr, PlainStmt, PlainKeyset, PlainLocal, PlainNext};
 ghost use Rattle.elastic_ast.specs.Typed.{Breaks, Typed};
 ghost use Rattle.elastic_ast.specs.WorkedValues.{bare, wide};
-ghost use Rattle.elastic_ast.specs.WorkedProgram.{x, element, v, dropped, r, assign, byte_field, stmts};
+ghost use Rattle.elastic_ast.specs.WorkedProgram.{x, element, v, dropped, r, assign, byte_field, stmts, with_body};
 ghost use Rattle.elastic_ast.specs.WorkedTyping.{frame, byte_and_word, taking_h, doing, with_locals, with_register, sized, parsing, state, goes_to, start, accept, y, named, set_x, sum, shifted, equal, turned, is_valid, over, plain_action, indexed_action, action_of_n, call, read_r, write_r, table_of_v, exact_table, ternary_table, one, at_least_one, constant, hash_below, steps, width_field, BreaksOnly};
-ghost use Rattle.elastic_ast.specs.WorkedSources.{count_min_sketch, ternary_table as ternary_table_source, count_big_headers, swap_then_set, changed_condition, two_staged_blocks, hashed_header, counted_rows, two_register_arrays};
+ghost use Rattle.elastic_ast.specs.WorkedSources.{count_min_sketch, sketch_and_cache, ternary_table as ternary_table_source, count_big_headers, swap_then_set, changed_condition, two_staged_blocks, hashed_header, counted_rows, two_register_arrays};
 
 /// Names: each is declared before it is used, once in its scope, and as what its place asks for.
 pub fn names_are_declared_once_and_known()
@@ -89,6 +89,7 @@ pub fn tables_and_calls_agree()
 /// Whole programs are typed.
 pub fn whole_programs_are_typed()
     ensures sketch { Typed false (count_min_sketch) }
+    ensures cache { Typed false (sketch_and_cache) }
     ensures entries { Typed false (ternary_table_source) }
     ensures registers { Typed false count_big_headers }
     ensures assignments { Typed false swap_then_set }
@@ -97,6 +98,7 @@ pub fn whole_programs_are_typed()
     ensures hash { Typed false hashed_header }
     ensures rows { Typed false counted_rows }
     ensures arrays { Typed false two_register_arrays }
+    ensures states_and_tables { Typed false (with_body (read_r ∷ PlainStmt.Apply (codes "t") ∷ PlainStmt.Apply (codes "u") ∷ [])) }
 {}
 
 /// Registers: each is named by one unit, which names no other.

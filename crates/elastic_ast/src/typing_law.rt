@@ -1,12 +1,13 @@
 //! What a typed program has, as laws over the definitions.
 
-ghost use Rattle.std.specs.Prelude.{◌≡◌, true, false, ◌∷◌, Bool, List, Option, Some, None, Contains};
+ghost use Rattle.std.specs.Prelude.{◌≡◌, true, false, ◌∷◌, ℕ, Bool, List, Option, Some, None, Contains};
 ghost use Rattle.elastic_ast.specs.Tree.{Name, PlainDecl, PlainExpr, PlainEntry, PlainTable, PlainState};
 ghost use Rattle.elastic_ast.specs.Scope.{among};
 ghost use Rattle.elastic_ast.specs.LookUps.{action_of, table_of, is_member};
 ghost use Rattle.elastic_ast.specs.Parts.{states_of, body_of, emits_of};
 ghost use Rattle.elastic_ast.specs.AskedInStatements.{no_action_name};
 ghost use Rattle.elastic_ast.specs.ParserLoops.{Loops};
+ghost use Rattle.elastic_ast.specs.NamedRegisters.{UnitNames, IsLooped, is_array};
 ghost use Rattle.elastic_ast.specs.Typed.{Typed};
 ghost use Rattle.elastic_ast.specs.Unnested.{Unnested};
 ghost use Rattle.elastic_ast.specs.Footprints.{TablesFit};
@@ -35,4 +36,11 @@ pub fn tables_run_what_they_list()
     ensures entries { (allow : Bool) (decls : List PlainDecl) → Typed allow decls → (name : Name) (table : PlainTable) → table_of decls name ≡ Some table → (entry : PlainEntry) → Contains table.entries entry → among table.actions entry.action ≡ true }
     ensures fallback { (allow : Bool) (decls : List PlainDecl) → Typed allow decls → (name : Name) (table : PlainTable) → table_of decls name ≡ Some table → (run : Name × List PlainExpr) → table.fallback ≡ Some run → among (no_action_name ∷ table.actions) run.0 ≡ true }
     ensures undeclared { (allow : Bool) (decls : List PlainDecl) → Typed allow decls → action_of decls no_action_name ≡ None }
+{}
+
+/// No two units name one register, a unit names one at most, and a unit in a loop names one of an array.
+pub fn registers_are_apart()
+    ensures apart { (allow : Bool) (decls : List PlainDecl) → Typed allow decls → (one other : ℕ) (register : Name) → UnitNames decls one register → UnitNames decls other register → one ≡ other }
+    ensures alone { (allow : Bool) (decls : List PlainDecl) → Typed allow decls → (unit : ℕ) (one other : Name) → UnitNames decls unit one → UnitNames decls unit other → one ≡ other }
+    ensures looped { (allow : Bool) (decls : List PlainDecl) → Typed allow decls → (unit : ℕ) (register : Name) → UnitNames decls unit register → IsLooped decls unit → is_array decls register ≡ true }
 {}
