@@ -48,11 +48,8 @@ pub use typing_law::{
     typed_programs_meet_the_premises,
 };
 pub use unit_examples::{
-    bits_of_a_table, flat_names, instances_of_a_sketch, memory_after_instances,
-    orders_of_two_units, programs_that_fit, registers_of_two_units, stages_of_blocks,
-    units_of_a_branch, units_of_a_call, units_of_a_register_write, units_of_a_sketch,
-    units_of_a_table_of_two_actions, units_of_big_headers, units_of_conditions_over_more,
-    units_of_conditions_over_one_unit, units_of_loops, units_of_validity, writes_of_instances,
+    flat_names, orders_of_two_units, units_of_a_sketch, units_of_conditions,
+    units_of_loops_and_blocks, units_of_tables_and_calls, units_with_registers, what_instances_do,
 };
 pub use unit_laws::{
     cut_keeps_the_meaning, free_neighbours_exchange, instances_are_kept, instances_have_footprints,
