@@ -1,4 +1,3 @@
-pub mod BareWords
 pub mod Building
 pub mod ExampleTrees
 pub mod PartedSigns

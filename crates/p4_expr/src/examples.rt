@@ -1,10 +1,8 @@
 //! Examples of what the grammar spells: laws over the definitions, each the contract of an empty function.
 
-ghost use Rattle.std.specs.Prelude.{◌≡◌, ℕ, List, [], ◌∷◌, None, codes, drop, take};
+ghost use Rattle.std.specs.Prelude.{None, codes, drop, take};
+ghost use Rattle.elastic_ast.specs.Operators.{Operator};
 ghost use Rattle.elastic_ast.specs.Tree.{PlainExpr};
-ghost use Rattle.p4_lexer.specs.declared.token.Token.{Token};
-ghost use Rattle.spelling.specs.Words.{words};
-ghost use Rattle.p4_expr.specs.PlacedWords.{placed_words, bare};
 ghost use Rattle.p4_expr.specs.Operators.{SpellsOperator};
 ghost use Rattle.p4_expr.specs.Expressions.{SpellsExpr};
 ghost use Rattle.p4_expr.specs.Examples.{product_in_sum, two_differences, name_in_brackets, shift, parted_shift, four_bits, byte_of_name, two_prefixes};
@@ -23,10 +21,5 @@ pub fn examples_are_spelled()
 
 /// Two signs `>` with a space between them are no operator.
 pub fn parted_signs_are_no_operator()
-    ensures { (text : List ℕ) → SpellsOperator text (take 2 (drop 1 parted_shift)) → ⊥ }
-{}
-
-/// The words with their places are the words, if the places are left out.
-pub fn law_of_bare_words()
-    ensures { (text : List ℕ) (tokens : List Token) → bare (placed_words text tokens) ≡ words text tokens }
+    ensures { (operator : Operator) → SpellsOperator operator (take 2 (drop 1 parted_shift)) → ⊥ }
 {}

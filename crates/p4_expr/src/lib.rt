@@ -3,4 +3,4 @@
 
 mod examples;
 
-pub use examples::{examples_are_spelled, law_of_bare_words, parted_signs_are_no_operator};
+pub use examples::{examples_are_spelled, parted_signs_are_no_operator};

@@ -1,26 +1,23 @@
 //! Laws of the grammar of whole programs and examples of what it spells, each the contract of an empty function.
 
 ghost use Rattle.std.specs.Prelude.{◌≡◌, ℕ, Bool, true, false, List, ◌∷◌, codes};
-ghost use Rattle.elastic_ast.specs.Tree.{PlainExpr, PlainStmt, PlainStmts, PlainProgram};
+ghost use Rattle.elastic_ast.specs.Tree.{PlainExpr, PlainStmt, PlainStmts, PlainTable, PlainProgram};
 ghost use Rattle.elastic_ast.specs.declared.declarations.Key.{Key};
-ghost use Rattle.elastic_ast.specs.Tree.{PlainTable};
 ghost use Rattle.spelling.specs.Words.{Word};
 ghost use Rattle.p4_parser.specs.Tables.{Property, SpellsTable};
-ghost use Rattle.p4_expr.specs.PlacedWords.{PlacedWord, bare};
 ghost use Rattle.p4_parser.specs.Grammar.{Spells};
 ghost use Rattle.p4_parser.specs.Statements.{SpellsStmt};
 ghost use Rattle.p4_parser.specs.Declarations.{SpellsProgram};
 ghost use Rattle.p4_parser.specs.Examples.{inner_else, only, bare_call};
 
-/// What the grammar of symbols, comparisons, the utility and the metadata spells, the grammar of whole programs spells,
-/// wherever the words stand.
+/// What the grammar of symbols, comparisons, the utility and the metadata spells, the grammar of whole programs spells.
 pub fn law_of_first_declarations()
-    ensures { (depth : ℕ) (decls : PlainProgram) (ws : List PlacedWord) → Spells depth decls (bare ws) → SpellsProgram depth decls ws }
+    ensures { (depth : ℕ) (decls : PlainProgram) (ws : List Word) → Spells depth decls ws → SpellsProgram depth decls ws }
 {}
 
 /// An `if` without `else` is always open, so it is no first branch of an `if` with `else`, unless brackets are around it.
 pub fn law_of_open_ends()
-    ensures { (depth : ℕ) (open_end : Bool) (condition : PlainExpr) (then_stmts : PlainStmts) (ws : List PlacedWord) → SpellsStmt depth open_end (PlainStmt.If condition then_stmts) ws → open_end ≡ true }
+    ensures { (depth : ℕ) (open_end : Bool) (condition : PlainExpr) (then_stmts : PlainStmts) (ws : List Word) → SpellsStmt depth open_end (PlainStmt.If condition then_stmts) ws → open_end ≡ true }
 {}
 
 /// An `else` behind two `if` belongs to the inner one. Each branch is one statement without brackets, and counts as one.
