@@ -1,3 +1,6 @@
 pub mod Building
 pub mod ExampleTrees
 pub mod PartedSigns
+pub mod PartsWithin
+pub mod ExprWithin
+pub mod ExprDeeper

@@ -66,17 +66,20 @@ mutual
     is_valid : {depth : ℕ} → {header : Name} → {ws : List Word} →
         SpellsIsValid depth header ws →
         SpellsPrimary depth (PlainExpr.IsValid header) ws
-    bracketed : {depth : ℕ} → {e : PlainExpr} → {ws : List Word} → (front inside back : List Word) →
-        Sign (codes "(") front →
+    bracketed : {depth : ℕ} → {e : PlainExpr} → {ws : List Word} → (opening inside closing : List Word) →
+        Sign (codes "(") opening →
         SpellsLevel depth weakest e inside →
-        Sign (codes ")") back →
-        ws ≡ front ++ inside ++ back →
+        Sign (codes ")") closing →
+        ws ≡ opening ++ inside ++ closing →
         SpellsPrimary (suc depth) e ws
-    hash : {depth : ℕ} → {number modulus : Amount} → {of : PlainExpr} → {ws : List Word} → (front inside back : List Word) →
-        (Named (codes "hash") ⨟ Sign (codes "(") ⨟ SpellsAmount number ⨟ Sign (codes ",")) front →
+    hash : {depth : ℕ} → {number modulus : Amount} → {of : PlainExpr} → {ws : List Word} → (name opening front inside back closing : List Word) →
+        Named (codes "hash") name →
+        Sign (codes "(") opening →
+        (SpellsAmount number ⨟ Sign (codes ",")) front →
         SpellsLevel depth weakest of inside →
-        (Sign (codes ",") ⨟ SpellsAmount modulus ⨟ Sign (codes ")")) back →
-        ws ≡ front ++ inside ++ back →
+        (Sign (codes ",") ⨟ SpellsAmount modulus) back →
+        Sign (codes ")") closing →
+        ws ≡ name ++ opening ++ (front ++ inside ++ back) ++ closing →
         SpellsPrimary (suc depth) (PlainExpr.Hash number of modulus) ws
     slice : {depth high low : ℕ} → {of : PlainExpr} → {ws : List Word} → (front back : List Word) →
         SpellsPrimary depth of front →

@@ -1,6 +1,8 @@
 //! The expressions of a program: which words spell one, and which tree these are.
 #![tactic(auto)]
 
+mod depth_laws;
 mod examples;
 
+pub use depth_laws::{law_of_greater_depths, law_of_open_brackets};
 pub use examples::{examples_are_spelled, parted_signs_are_no_operator};

@@ -6,3 +6,8 @@ pub mod StillSpelled
 pub mod SumSpelling
 pub mod Terms
 pub mod TwoKeys
+pub mod StatementsWithin
+pub mod StatementsDeeper
+pub mod TablesWithin
+pub mod DeclarationsWithin
+pub mod DeclarationsDeeper

@@ -5,4 +5,5 @@ pub mod Grammar
 pub mod Tables
 pub mod Statements
 pub mod Declarations
+pub mod ProgramOf
 pub mod Examples

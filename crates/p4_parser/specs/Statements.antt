@@ -75,11 +75,12 @@ mutual
   --   stmt := ['@' 'stage' '(' K ')'] '{' stmt* '}' | 'if' '(' expr ')' stmt ['else' stmt]
   --     | 'for' '(' N '<' N ')' '{' stmt* '}' | N ['[' N ']'] '(' expr,* ')' ';' | N '.' 'apply' '(' ')' ';' | plain
   pub data SpellsStmt : ℕ → Bool → PlainStmt → List Word → Type 0 where
-    block : {depth : ℕ} → {stage : Option ℕ} → {body : PlainStmts} → {ws : List Word} → (front inside back : List Word) →
-        (SpellsStage (suc depth) stage ⨟ Sign (codes "{")) front →
+    block : {depth : ℕ} → {stage : Option ℕ} → {body : PlainStmts} → {ws : List Word} → (front opening inside closing : List Word) →
+        SpellsStage (suc depth) stage front →
+        Sign (codes "{") opening →
         SpellsStmts depth body inside →
-        Sign (codes "}") back →
-        ws ≡ front ++ inside ++ back →
+        Sign (codes "}") closing →
+        ws ≡ front ++ opening ++ inside ++ closing →
         SpellsStmt (suc depth) false (PlainStmt.Block stage body) ws
     without_else : {depth : ℕ} → {open_end : Bool} → {condition : PlainExpr} → {then_stmts : PlainStmts} → {ws : List Word} → (front back : List Word) →
         SpellsCondition depth condition front →
@@ -93,11 +94,12 @@ mutual
         SpellsBranch depth open_end else_stmts second →
         ws ≡ front ++ first ++ between ++ second →
         SpellsStmt depth open_end (PlainStmt.IfElse condition then_stmts else_stmts) ws
-    repeated : {depth : ℕ} → {index size : Name} → {body : PlainStmts} → {ws : List Word} → (front inside back : List Word) →
-        (SpellsTurns (suc depth) index size ⨟ Sign (codes "{")) front →
+    repeated : {depth : ℕ} → {index size : Name} → {body : PlainStmts} → {ws : List Word} → (front opening inside closing : List Word) →
+        SpellsTurns (suc depth) index size front →
+        Sign (codes "{") opening →
         SpellsStmts depth body inside →
-        Sign (codes "}") back →
-        ws ≡ front ++ inside ++ back →
+        Sign (codes "}") closing →
+        ws ≡ front ++ opening ++ inside ++ closing →
         SpellsStmt (suc depth) false (PlainStmt.For index size body) ws
     called : {depth : ℕ} → {action : Name} → {index : Option Name} → {arguments : List PlainExpr} → {ws : List Word} →
         SpellsCall depth action index arguments ws →
@@ -122,11 +124,11 @@ mutual
   -- A branch of an `if`. A block without a stage gives its statements; any other statement gives a list of one, and counts as
   -- one more bracket, which is open from its first word to its last.
   pub data SpellsBranch : ℕ → Bool → PlainStmts → List Word → Type 0 where
-    in_brackets : {depth : ℕ} → {stmts : PlainStmts} → {ws : List Word} → (front inside back : List Word) →
-        Sign (codes "{") front →
+    in_brackets : {depth : ℕ} → {stmts : PlainStmts} → {ws : List Word} → (opening inside closing : List Word) →
+        Sign (codes "{") opening →
         SpellsStmts depth stmts inside →
-        Sign (codes "}") back →
-        ws ≡ front ++ inside ++ back →
+        Sign (codes "}") closing →
+        ws ≡ opening ++ inside ++ closing →
         SpellsBranch (suc depth) false stmts ws
     alone : {depth : ℕ} → {open_end : Bool} → {stmt : PlainStmt} → {ws : List Word} →
         is_bare_block stmt ≡ false →

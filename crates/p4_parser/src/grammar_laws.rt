@@ -1,12 +1,13 @@
 //! Laws of the grammar of whole programs and examples of what it spells, each the contract of an empty function.
 
-ghost use Rattle.std.specs.Prelude.{◌≡◌, ℕ, Bool, true, false, List, ◌∷◌, codes};
+ghost use Rattle.std.specs.Prelude.{◌≡◌, ℕ, ◌≤◌, Bool, true, false, List, ◌∷◌, codes};
 ghost use Rattle.elastic_ast.specs.Tree.{PlainExpr, PlainStmt, PlainStmts, PlainTable, PlainProgram};
 ghost use Rattle.elastic_ast.specs.declared.declarations.Key.{Key};
 ghost use Rattle.spelling.specs.Words.{Word};
+ghost use Rattle.spelling.specs.Brackets.{most_open};
 ghost use Rattle.p4_parser.specs.Tables.{Property, SpellsTable};
 ghost use Rattle.p4_parser.specs.Grammar.{Spells};
-ghost use Rattle.p4_parser.specs.Statements.{SpellsStmt};
+ghost use Rattle.p4_parser.specs.Statements.{SpellsStmt, SpellsStmts};
 ghost use Rattle.p4_parser.specs.Declarations.{SpellsProgram};
 ghost use Rattle.p4_parser.specs.Examples.{inner_else, only, bare_call};
 
@@ -28,4 +29,16 @@ pub fn else_goes_to_the_inner_if()
 /// No table is spelled with a key property behind a key property, even where both are empty.
 pub fn no_table_has_two_key_properties()
     ensures { (depth : ℕ) (table : PlainTable) (ws : List Word) (spelled : SpellsTable depth table ws) (one other : List Key) (rest : List Property) → spelled.properties ≡ Property.Keys one ∷ Property.Keys other ∷ rest → ⊥ }
+{}
+
+/// What is spelled within a depth is spelled within each greater one.
+pub fn law_of_greater_depths()
+    ensures statements { (depth more : ℕ) (stmts : PlainStmts) (ws : List Word) → depth ≤ more → SpellsStmts depth stmts ws → SpellsStmts more stmts ws }
+    ensures programs { (depth more : ℕ) (program : PlainProgram) (ws : List Word) → depth ≤ more → SpellsProgram depth program ws → SpellsProgram more program ws }
+{}
+
+/// No more brackets are open at a word of statements or of a program than the depth says, under which it is spelled.
+pub fn law_of_open_brackets()
+    ensures statements { (depth : ℕ) (stmts : PlainStmts) (ws : List Word) → SpellsStmts depth stmts ws → most_open ws ≤ depth }
+    ensures programs { (depth : ℕ) (program : PlainProgram) (ws : List Word) → SpellsProgram depth program ws → most_open ws ≤ depth }
 {}

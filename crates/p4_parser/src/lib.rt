@@ -10,7 +10,8 @@ mod sums;
 mod tests;
 
 pub use grammar_laws::{
-    else_goes_to_the_inner_if, law_of_first_declarations, law_of_open_ends,
+    else_goes_to_the_inner_if, law_of_first_declarations, law_of_greater_depths,
+    law_of_open_brackets, law_of_open_ends,
     no_table_has_two_key_properties,
 };
 pub use parsing::parse;
