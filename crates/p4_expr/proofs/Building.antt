@@ -1,5 +1,5 @@
 -- Derivations of small expressions.
-use Rattle.std.proofs.Common.{◌≡◌, ◌≢◌, ℕ, ◌<◌, ◌^◌, IsTrue, List, [], ◌∷◌, codes, refl, inl, inr, sym, subst, None}
+use Rattle.std.proofs.Common.{◌≡◌, ℕ, zero, suc, ◌<◌, ◌^◌, IsTrue, List, [], ◌∷◌, codes, refl, inl, inr, sym, subst, None}
 use Rattle.p4_lexer.specs.declared.token.Kind.{Kind}
 use Rattle.p4_lexer.specs.declared.token.Kind.TheVariants as kind
 use Rattle.elastic_ast.specs.Tree.{PlainExpr}
@@ -88,11 +88,20 @@ one_name depth text w h e = SpellsLevel.prefixed (prefixed_name depth text w h e
 pub one_number : (depth : ℕ) (value : ℕ) (w : Word) → value < 2 ^ 128 → w.kind ≡ kind.Number None value → SpellsLevel depth 0 (PlainExpr.Num None value) (w ∷ [])
 one_number depth value w fits h = SpellsLevel.prefixed (SpellsPrefixed.primary (SpellsPrimary.number ((tt, fits), word_last w h)))
 
+-- so many levels up
+abbrev pub raised : ℕ → ℕ → ℕ
+raised zero level = level
+raised (suc n) level = suc (raised n level)
+
+pub lift : {depth level : ℕ} {e : PlainExpr} {ws : List Word} (n : ℕ) → SpellsLevel depth level e ws → SpellsLevel depth (raised n level) e ws
+lift zero h = h
+lift (suc n) h = SpellsLevel.stronger (lift n h)
+
 pub from_three : (depth : ℕ) (e : PlainExpr) (ws : List Word) → SpellsLevel depth 3 e ws → SpellsLevel depth 10 e ws
-from_three depth e ws h = SpellsLevel.stronger (SpellsLevel.stronger (SpellsLevel.stronger (SpellsLevel.stronger (SpellsLevel.stronger (SpellsLevel.stronger (SpellsLevel.stronger h))))))
+from_three depth e ws h = lift 7 h
 
 pub from_two : (depth : ℕ) (e : PlainExpr) (ws : List Word) → SpellsLevel depth 2 e ws → SpellsLevel depth 10 e ws
-from_two depth e ws h = from_three depth e ws (SpellsLevel.stronger h)
+from_two depth e ws h = lift 8 h
 
 pub from_none : (depth : ℕ) (e : PlainExpr) (ws : List Word) → SpellsLevel depth 0 e ws → SpellsLevel depth 10 e ws
-from_none depth e ws h = from_two depth e ws (SpellsLevel.stronger (SpellsLevel.stronger h))
+from_none depth e ws h = lift 10 h

@@ -4,3 +4,4 @@ pub mod PartedSigns
 pub mod PartsWithin
 pub mod ExprWithin
 pub mod ExprDeeper
+pub mod MoreTrees

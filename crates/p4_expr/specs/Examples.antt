@@ -1,8 +1,10 @@
 -- Texts with their tokens, for examples; this project's own.
-use Rattle.std.specs.Prelude.{ℕ, List, [], ◌∷◌, None, codes}
+use Rattle.std.specs.Prelude.{ℕ, List, [], ◌∷◌, None, codes, map}
 use Rattle.p4_lexer.specs.declared.token.Kind.TheVariants as kind
 use Rattle.p4_lexer.specs.declared.token.Token.{Token}
+use Rattle.elastic_ast.specs.Operators.{operators}
 use Rattle.spelling.specs.Words.{Word, words}
+use Rattle.p4_expr.specs.Operators.{level_of, text_of}
 
 -- the token of a name, of a sign or a reserved word with this code, and of a number without a width, from one place to another
 abbrev pub named : ℕ → ℕ → Token
@@ -40,3 +42,25 @@ byte_of_name = words (codes "(bit<8>) x") (signed 2 0 1 ∷ reserved 1 1 4 ∷ s
 
 abbrev pub two_prefixes : List Word
 two_prefixes = words (codes "~ ! x") (signed 19 0 1 ∷ signed 20 2 3 ∷ named 4 5 ∷ [])
+
+abbrev pub shift_of_sum : List Word
+shift_of_sum = words (codes "a << b + c") (named 0 1 ∷ signed 28 2 4 ∷ named 5 6 ∷ signed 13 7 8 ∷ named 9 10 ∷ [])
+
+abbrev pub and_in_equation : List Word
+and_in_equation = words (codes "a == b & c") (named 0 1 ∷ signed 22 2 4 ∷ named 5 6 ∷ signed 16 7 8 ∷ named 9 10 ∷ [])
+
+abbrev pub turned_slice : List Word
+turned_slice = words (codes "~x[3:0]") (signed 19 0 1 ∷ named 1 2 ∷ signed 4 2 3 ∷ numbered 3 3 4 ∷ signed 9 4 5 ∷ numbered 0 5 6 ∷ signed 5 6 7 ∷ [])
+
+abbrev pub byte_of_sum : List Word
+byte_of_sum = words (codes "(bit<8>)(a + b)") (signed 2 0 1 ∷ reserved 1 1 4 ∷ signed 6 4 5 ∷ numbered 8 5 6 ∷ signed 7 6 7 ∷ signed 3 7 8 ∷ signed 2 8 9 ∷ named 9 10 ∷ signed 13 11 12 ∷ named 13 14 ∷ signed 3 14 15 ∷ [])
+
+abbrev pub hash_of_name : List Word
+hash_of_name = words (codes "hash(i, x, 7)") (named 0 4 ∷ signed 2 4 5 ∷ named 5 6 ∷ signed 10 6 7 ∷ named 8 9 ∷ signed 10 9 10 ∷ numbered 7 11 12 ∷ signed 3 12 13 ∷ [])
+
+abbrev pub validity : List Word
+validity = words (codes "hdr.h.isValid()") (named 0 3 ∷ signed 11 3 4 ∷ named 4 5 ∷ signed 11 5 6 ∷ named 6 13 ∷ signed 2 13 14 ∷ signed 3 14 15 ∷ [])
+
+-- the level and the text of each operator, by code
+abbrev pub operators_by_code : List (ℕ × List ℕ)
+operators_by_code = map (λ operator. (level_of operator, text_of operator)) operators
