@@ -1,12 +1,8 @@
 -- An expression opens no more brackets than its depth allows, and closes those that it opens.
-use Rattle.std.proofs.Common.{◌≤◌, ℕ, suc, List, codes, refl, sym, subst}
+use Rattle.std.proofs.Common.{ℕ, suc, List, codes, refl, sym, subst}
 use Rattle.elastic_ast.specs.Tree.{PlainExpr}
-use Rattle.elastic_ast.specs.declared.statements.Amount.{Amount}
 use Rattle.spelling.specs.Words.{Word}
-use Rattle.spelling.specs.Grammar.{◌⨟◌, Sign, Named}
 use Rattle.spelling.proofs.Balance.{Within, Stays, both_within, enclosed, enclosed_after, stays_both, stays_named, stays_sign}
-use Rattle.p4_expr.specs.Parts.{SpellsAmount}
-use Rattle.p4_expr.specs.Operators.{weakest}
 use Rattle.p4_expr.specs.Expressions.{SpellsLevel, SpellsPrefixed, SpellsPrimary, SpellsExpr}
 use Rattle.p4_expr.proofs.PartsWithin.{number_stays, truth_stays, amount_stays, lval_stays, is_valid_stays, bit_range_stays, cast_stays, operator_stays}
 

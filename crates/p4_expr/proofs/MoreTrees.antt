@@ -1,12 +1,12 @@
 -- The trees of more examples: shifts and sums, equations, prefixes and slices, casts of sums, hashes and validity bits.
-use Rattle.std.proofs.Common.{[], ◌∷◌, codes, refl, None, lit<, lit≤}
+use Rattle.std.proofs.Common.{[], ◌∷◌, codes, refl, lit<, lit≤}
 use Rattle.elastic_ast.specs.Operators.{Equal, BitAnd, ShiftUp, Plus, Turn}
 use Rattle.elastic_ast.specs.declared.statements.Amount.TheVariants as amount
 use Rattle.elastic_ast.specs.Tree.{PlainExpr}
 use Rattle.p4_expr.specs.Operators.{operators_in}
 use Rattle.p4_expr.specs.Expressions.{SpellsLevel, SpellsPrefixed, SpellsPrimary, SpellsExpr}
 use Rattle.p4_expr.specs.Examples.{shift_of_sum, and_in_equation, turned_slice, byte_of_sum, hash_of_name, validity}
-use Rattle.p4_expr.proofs.Building.{sign_first, sign_last, reserved_first, name_first, name_last, word_first, word_last, is_equal, is_bit_and, is_shift_up, is_plus, is_turn, primary_name, prefixed_name, one_name, from_none, lift}
+use Rattle.p4_expr.proofs.Building.{sign_first, sign_last, reserved_first, name_first, name_last, word_first, word_last, is_equal, is_bit_and, is_shift_up, is_plus, is_turn, primary_name, one_name, from_none, lift}
 
 pub shift_of_sum_tree : SpellsExpr 0 (PlainExpr.Binary 11 (PlainExpr.Named (codes "a")) (PlainExpr.Binary 13 (PlainExpr.Named (codes "b")) (PlainExpr.Named (codes "c")))) shift_of_sum
 unfolding operators_in

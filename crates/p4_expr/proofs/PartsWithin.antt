@@ -7,7 +7,6 @@ use Rattle.elastic_ast.specs.declared.statements.Amount.TheVariants as amount
 use Rattle.elastic_ast.specs.declared.statements.Lval.{Lval}
 use Rattle.elastic_ast.specs.declared.statements.Lval.TheVariants as lval
 use Rattle.elastic_ast.specs.declared.statements.RegRef.{RegRef}
-use Rattle.spelling.specs.Words.{Word}
 use Rattle.spelling.specs.Grammar.{Empty, Named, Num, ◌⨟◌, Sign}
 use Rattle.spelling.proofs.Balance.{Stays, stays_empty, stays_sign, stays_reserved, stays_named, stays_kind, stays_both, stays_where, stays_round, stays_square, stays_touching}
 use Rattle.p4_expr.specs.Parts.{SpellsNumber, SpellsTruth, SpellsBits, SpellsAmount, SpellsIndex, SpellsHeader, SpellsNoArguments, SpellsLval, SpellsRegister, SpellsIsValid, SpellsBitRange, SpellsCast}

@@ -1,12 +1,11 @@
 -- Tables, declarations and programs that are spelled within a depth are spelled within each greater one.
-use Rattle.std.proofs.Common.{ℕ, zero, suc, ◌≤◌, Bool, List, [], ◌∷◌, Option, None, Some, codes, arith}
+use Rattle.std.proofs.Common.{ℕ, ◌≤◌, List, Option, None, Some, codes}
 use Rattle.elastic_ast.specs.declared.declarations.Key.{Key}
 use Rattle.elastic_ast.specs.declared.declarations.Field.{Field}
 use Rattle.elastic_ast.specs.declared.declarations.UtilTerm.{UtilTerm}
 use Rattle.elastic_ast.specs.declared.declarations.UtilTerm.TheVariants as util
 use Rattle.elastic_ast.specs.Tree.{Name, PlainExpr, PlainKeyset, PlainEntry, PlainTable, PlainLocal, PlainNext, PlainState, PlainDecl, PlainProgram}
-use Rattle.spelling.specs.Words.{Word}
-use Rattle.spelling.specs.Grammar.{Grammar, Empty, Either, ◌⨟◌, Each, FirstThenEach, Separated, Commas, Sign, Reserved, Named, Bracketed}
+use Rattle.spelling.specs.Grammar.{Empty, Either, ◌⨟◌, Each, FirstThenEach, Separated, Commas, Sign, Reserved, Named, Bracketed}
 use Rattle.spelling.proofs.Deeper.{Under, itself, under_both, under_either, under_where, under_each, under_first, under_bracketed}
 use Rattle.p4_expr.specs.Parts.{SpellsBits, SpellsAmount, SpellsHeader}
 use Rattle.p4_expr.specs.Expressions.{SpellsExpr}
@@ -15,7 +14,7 @@ use Rattle.p4_parser.specs.Sums.{SpellsFirstTerm, SpellsLaterTerm, SpellsSign, S
 use Rattle.p4_parser.specs.Flat.{SpellsStep, SpellsSteps, SpellsFirstGain, SpellsLaterGain, SpellsHeaderField, SpellsMetaField, SpellsMember, SpellsEmit, SpellsDeparserParameters, SpellsPart, SpellsFlat}
 use Rattle.p4_parser.specs.Tables.{Property, SpellsValue, SpellsSet, SpellsOneSet, SpellsSets, SpellsValues, SpellsEntry, SpellsMatch, SpellsKey, SpellsProperty, SpellsTable}
 use Rattle.p4_parser.specs.Statements.{SpellsPlains, SpellsStmts}
-use Rattle.p4_parser.specs.Declarations.{SpellsActionIndex, SpellsParam, SpellsLocal, SpellsExtract, SpellsCaseSet, SpellsCase, SpellsNext, SpellsState, SpellsParserParameters, SpellsControlParameters, SpellsDeclaration, SpellsProgram}
+use Rattle.p4_parser.specs.Declarations.{SpellsActionIndex, SpellsParam, SpellsLocal, SpellsExtract, SpellsCase, SpellsNext, SpellsState, SpellsParserParameters, SpellsControlParameters, SpellsDeclaration, SpellsProgram}
 use Rattle.p4_parser.proofs.StatementsDeeper.{plains_deeper, stmts_deeper}
 
 pub values_deeper : (depth more : ℕ) (values : List PlainExpr) → depth ≤ more → Under (SpellsValues depth values) (SpellsValues more values)

@@ -1,5 +1,5 @@
 -- A declaration and a program open no more brackets than their depth allows, and close those that they open.
-use Rattle.std.proofs.Common.{ℕ, Bool, true, false, List, [], ◌∷◌, Option, None, Some, codes, refl}
+use Rattle.std.proofs.Common.{ℕ, Bool, true, false, List, Option, None, Some, codes, refl}
 use Rattle.p4_lexer.specs.declared.token.Kind.TheVariants as kind
 use Rattle.elastic_ast.specs.declared.declarations.Field.{Field}
 use Rattle.elastic_ast.specs.declared.declarations.Param.{Param}
@@ -9,7 +9,7 @@ use Rattle.elastic_ast.specs.declared.declarations.Rel.{Rel}
 use Rattle.elastic_ast.specs.declared.declarations.Rel.TheVariants as rel
 use Rattle.elastic_ast.specs.declared.declarations.UtilTerm.{UtilTerm}
 use Rattle.elastic_ast.specs.declared.declarations.UtilTerm.TheVariants as util
-use Rattle.elastic_ast.specs.Tree.{Name, PlainExpr, PlainKeyset, PlainLocal, PlainNext, PlainState, PlainDecl, PlainProgram}
+use Rattle.elastic_ast.specs.Tree.{Name, PlainKeyset, PlainLocal, PlainNext, PlainState, PlainDecl, PlainProgram}
 use Rattle.spelling.specs.Grammar.{◌⨟◌, Each, FirstThenEach, Separated, Commas, Sign, Reserved, Named, Bracketed}
 use Rattle.spelling.proofs.Balance.{Stays, stays_empty, stays_sign, stays_reserved, stays_named, stays_kind, stays_both, stays_either, stays_where, stays_each, stays_first, stays_separated, stays_commas, stays_round, stays_square, stays_curly}
 use Rattle.p4_expr.specs.Parts.{SpellsAmount, SpellsHeader}
@@ -17,9 +17,9 @@ use Rattle.p4_expr.specs.Expressions.{SpellsExpr}
 use Rattle.p4_expr.proofs.PartsWithin.{number_stays, num_stays, bits_stays, amount_stays, index_stays, header_stays, no_arguments_stays}
 use Rattle.p4_expr.proofs.ExprWithin.{expr_within}
 use Rattle.p4_parser.specs.Sums.{SpellsProduct, SpellsSign, SpellsFirstTerm, SpellsLaterTerm, SpellsSum, SpellsRelation, SpellsComparison, SpellsComparisons}
-use Rattle.p4_parser.specs.Flat.{SpellsStep, SpellsSteps, SpellsFirstGain, SpellsLaterGain, SpellsConstant, SpellsHeaderField, SpellsMetaField, SpellsMember, SpellsEmit, SpellsDeparserParameters, SpellsPart, SpellsFlat}
+use Rattle.p4_parser.specs.Flat.{SpellsStep, SpellsSteps, SpellsFirstGain, SpellsLaterGain, SpellsHeaderField, SpellsMetaField, SpellsMember, SpellsEmit, SpellsDeparserParameters, SpellsPart, SpellsFlat}
 use Rattle.p4_parser.specs.Statements.{SpellsPlains, SpellsStmts}
-use Rattle.p4_parser.specs.Declarations.{SpellsActionIndex, SpellsParam, SpellsLocal, SpellsExtract, SpellsCaseSet, SpellsCase, SpellsNext, SpellsState, SpellsParserParameters, SpellsControlParameters, SpellsDeclaration, SpellsProgram}
+use Rattle.p4_parser.specs.Declarations.{SpellsActionIndex, SpellsParam, SpellsLocal, SpellsExtract, SpellsCase, SpellsNext, SpellsState, SpellsParserParameters, SpellsControlParameters, SpellsDeclaration, SpellsProgram}
 use Rattle.p4_parser.proofs.StatementsWithin.{plains_stay, stmts_within}
 use Rattle.p4_parser.proofs.TablesWithin.{set_stays, table_stays}
 

@@ -11,3 +11,7 @@ pub mod StatementsDeeper
 pub mod TablesWithin
 pub mod DeclarationsWithin
 pub mod DeclarationsDeeper
+pub mod NestedConditions
+pub mod Peeling
+pub mod Refused
+pub mod DeclarationTrees

@@ -1,14 +1,14 @@
 -- The trees of the examples of statements, and that an `if` without `else` is open.
-use Rattle.std.proofs.Common.{◌≡◌, ℕ, suc, Bool, true, false, List, [], ◌∷◌, codes, refl, None, lit≤}
+use Rattle.std.proofs.Common.{◌≡◌, ℕ, suc, Bool, true, false, List, [], ◌∷◌, codes, refl, None, Some, lit<, lit≤}
 use Rattle.p4_lexer.specs.declared.token.Kind.TheVariants as kind
 use Rattle.elastic_ast.specs.Tree.{Name, PlainExpr, PlainStmt, PlainStmts}
 use Rattle.spelling.specs.Grammar.{IsNamed}
 use Rattle.spelling.specs.Words.{Word}
 use Rattle.p4_expr.specs.Operators.{operators_in}
 use Rattle.p4_expr.specs.Expressions.{SpellsExpr}
-use Rattle.p4_expr.proofs.Building.{sign_first, sign_last, reserved_first, reserved_last, name_first, one_name, from_none}
-use Rattle.p4_parser.specs.Statements.{SpellsCondition, SpellsCall, SpellsStmt, SpellsBranch}
-use Rattle.p4_parser.specs.Examples.{inner_else, only, bare_call}
+use Rattle.p4_expr.proofs.Building.{sign_first, sign_last, reserved_first, reserved_last, name_first, word_last, one_name, from_none}
+use Rattle.p4_parser.specs.Statements.{SpellsCondition, SpellsCall, SpellsStmt, SpellsStmts, SpellsBranch}
+use Rattle.p4_parser.specs.Examples.{inner_else, branch_of_a_stage, only, bare_call}
 
 pub name_alone : (depth : ℕ) (name : Name) (w : Word) → IsNamed name w → SpellsExpr depth (PlainExpr.Named name) (w ∷ [])
 unfolding operators_in
@@ -52,6 +52,33 @@ inner_else_tree =
     refl))
     refl
 
+pub stage_branch_tree : SpellsStmt 3 true (PlainStmt.If (PlainExpr.Named (codes "a")) (only (PlainStmt.Block (Some 0) (only (bare_call (codes "x")))))) branch_of_a_stage
+stage_branch_tree =
+    SpellsStmt.without_else {open_end = false} _ _
+    (condition_of_name 2 (codes "a") _ _ _ _ refl refl refl refl refl refl refl refl)
+    (SpellsBranch.alone refl
+    (SpellsStmt.block (_ ∷ _ ∷ _ ∷ _ ∷ _ ∷ []) _ (_ ∷ _ ∷ _ ∷ _ ∷ []) _
+    (
+      lit< tt,
+      sign_first (codes "@") 30 _ _ refl refl
+      (name_first (codes "stage") _ _ refl refl
+      (sign_first (codes "(") 2 _ _ refl refl record { front = _ ∷ []; back = _ ∷ []; joined = refl; first = word_last _ refl; second = sign_last (codes ")") 3 _ refl refl })),
+    )
+    (sign_last (codes "{") 0 _ refl refl)
+    (SpellsStmts.one_more {open_end = false} _ [] (SpellsStmt.called (call_of_name 0 (codes "x") _ _ _ _ refl refl refl refl refl refl refl refl)) SpellsStmts.no_more refl)
+    (sign_last (codes "}") 1 _ refl refl)
+    refl))
+    refl
+
 pub if_is_open : (depth : ℕ) (open_end : Bool) (condition : PlainExpr) (then_stmts : PlainStmts) (ws : List Word) → SpellsStmt depth open_end (PlainStmt.If condition then_stmts) ws → open_end ≡ true
 if_is_open depth open_end condition then_stmts ws (SpellsStmt.without_else front back a b c) = refl
 if_is_open depth open_end condition then_stmts ws (SpellsStmt.simple h) = absurd h
+
+-- its condition stands in brackets
+pub no_depth_no_if : (open_end : Bool) (condition : PlainExpr) (then_stmts : PlainStmts) (ws : List Word) → SpellsStmt 0 open_end (PlainStmt.If condition then_stmts) ws → ⊥
+no_depth_no_if open_end condition then_stmts ws (SpellsStmt.without_else front back c b e) = c.second
+no_depth_no_if open_end condition then_stmts ws (SpellsStmt.simple h) = h
+
+pub no_depth_no_else : (open_end : Bool) (condition : PlainExpr) (then_stmts else_stmts : PlainStmts) (ws : List Word) → SpellsStmt 0 open_end (PlainStmt.IfElse condition then_stmts else_stmts) ws → ⊥
+no_depth_no_else open_end condition then_stmts else_stmts ws (SpellsStmt.with_else front first between second c f i s e) = c.second
+no_depth_no_else open_end condition then_stmts else_stmts ws (SpellsStmt.simple h) = h

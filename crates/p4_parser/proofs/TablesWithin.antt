@@ -1,7 +1,7 @@
 -- A table opens no more brackets than its depth allows, and closes those that it opens.
 use Rattle.std.proofs.Common.{ℕ, Bool, true, false, List, [], ◌∷◌, codes, refl}
 use Rattle.elastic_ast.specs.declared.declarations.Key.{Key}
-use Rattle.elastic_ast.specs.Tree.{Name, PlainExpr, PlainKeyset, PlainEntry, PlainTable}
+use Rattle.elastic_ast.specs.Tree.{PlainExpr, PlainKeyset, PlainEntry, PlainTable}
 use Rattle.spelling.specs.Grammar.{◌⨟◌, Each, Separated, Commas, Sign, Named}
 use Rattle.spelling.proofs.Balance.{Stays, stays_empty, stays_sign, stays_reserved, stays_named, stays_both, stays_either, stays_where, stays_each, stays_separated, stays_commas, stays_round, stays_curly}
 use Rattle.p4_expr.proofs.PartsWithin.{number_stays, num_stays, lval_stays}

@@ -1,4 +1,4 @@
-//! Laws of the grammar of whole programs and examples of what it spells, each the contract of an empty function.
+//! Laws of the grammar of whole programs, each the contract of an empty function.
 
 ghost use Rattle.std.specs.Prelude.{◌≡◌, ℕ, ◌≤◌, Bool, true, false, List, ◌∷◌, codes};
 ghost use Rattle.elastic_ast.specs.Tree.{PlainExpr, PlainStmt, PlainStmts, PlainTable, PlainProgram};
@@ -9,7 +9,6 @@ ghost use Rattle.p4_parser.specs.Tables.{Property, SpellsTable};
 ghost use Rattle.p4_parser.specs.Grammar.{Spells};
 ghost use Rattle.p4_parser.specs.Statements.{SpellsStmt, SpellsStmts};
 ghost use Rattle.p4_parser.specs.Declarations.{SpellsProgram};
-ghost use Rattle.p4_parser.specs.Examples.{inner_else, only, bare_call};
 
 /// What the grammar of symbols, comparisons, the utility and the metadata spells, the grammar of whole programs spells.
 pub fn law_of_first_declarations()
@@ -19,11 +18,6 @@ pub fn law_of_first_declarations()
 /// An `if` without `else` is always open, so it is no first branch of an `if` with `else`, unless brackets are around it.
 pub fn law_of_open_ends()
     ensures { (depth : ℕ) (open_end : Bool) (condition : PlainExpr) (then_stmts : PlainStmts) (ws : List Word) → SpellsStmt depth open_end (PlainStmt.If condition then_stmts) ws → open_end ≡ true }
-{}
-
-/// An `else` behind two `if` belongs to the inner one. Each branch is one statement without brackets, and counts as one.
-pub fn else_goes_to_the_inner_if()
-    ensures { SpellsStmt 3 true (PlainStmt.If (PlainExpr.Named (codes "a")) (only (PlainStmt.IfElse (PlainExpr.Named (codes "b")) (only (bare_call (codes "x"))) (only (bare_call (codes "y")))))) inner_else }
 {}
 
 /// No table is spelled with a key property behind a key property, even where both are empty.

@@ -1,10 +1,9 @@
 -- Words that open no more brackets than a depth allows, and close those that they open.
-use Rattle.std.proofs.Common.{◌≡◌, ℕ, zero, suc, ◌+◌, ◌-◌, ◌≤◌, max, Bool, true, false, IsTrue, List, [], ◌∷◌, ◌++◌, ◌&&◌, append_assoc, refl, sym, ap, subst, ◌∙◌, inl, inr, ◌⊎◌, arith, add-one, codes, cond}
+use Rattle.std.proofs.Common.{◌≡◌, ℕ, zero, suc, ◌+◌, ◌-◌, ◌≤◌, Bool, true, false, List, [], ◌∷◌, ◌++◌, ◌&&◌, append_assoc, refl, sym, ap, subst, ◌∙◌, inl, inr, arith, add-one, codes, cond}
 use Rattle.std.proofs.Math.Nat.{max-le}
 use Rattle.p4_lexer.specs.declared.token.Kind.{Kind}
-use Rattle.p4_lexer.specs.declared.token.Kind.TheVariants as kind
 use Rattle.spelling.specs.Words.{Word}
-use Rattle.spelling.specs.Grammar.{Grammar, Empty, Nothing, Either, Where, ◌⨟◌, One, TwoTouching, Each, FirstThenEach, Separated, Commas, Sign, Reserved, Named, Num, IsSign, IsNum, Bracketed, is_sign, is_reserved}
+use Rattle.spelling.specs.Grammar.{Grammar, Empty, Either, Where, ◌⨟◌, One, TwoTouching, Each, FirstThenEach, Separated, Commas, Sign, Reserved, Named, IsSign, Bracketed, is_sign}
 use Rattle.spelling.specs.Brackets.{is_opening, is_closing, opens, closes, open_at, open_after, open_behind, most_open_from, most_open}
 use Rattle.spelling.proofs.Only.{reserved_no_sign}
 
