@@ -5,3 +5,5 @@ pub mod PartsWithin
 pub mod ExprWithin
 pub mod ExprDeeper
 pub mod MoreTrees
+pub mod ExprExact
+pub mod ManyPrefixes

@@ -1,8 +1,9 @@
 -- Texts with their tokens, for examples; this project's own.
-use Rattle.std.specs.Prelude.{ℕ, List, [], ◌∷◌, None, codes, map}
+use Rattle.std.specs.Prelude.{ℕ, zero, suc, ◌++◌, List, [], ◌∷◌, None, codes, map}
 use Rattle.p4_lexer.specs.declared.token.Kind.TheVariants as kind
 use Rattle.p4_lexer.specs.declared.token.Token.{Token}
 use Rattle.elastic_ast.specs.Operators.{operators}
+use Rattle.elastic_ast.specs.Tree.{PlainExpr}
 use Rattle.spelling.specs.Words.{Word, words}
 use Rattle.p4_expr.specs.Operators.{level_of, text_of}
 
@@ -64,3 +65,13 @@ validity = words (codes "hdr.h.isValid()") (named 0 3 ∷ signed 11 3 4 ∷ name
 -- the level and the text of each operator, by code
 abbrev pub operators_by_code : List (ℕ × List ℕ)
 operators_by_code = map (λ operator. (level_of operator, text_of operator)) operators
+
+-- a name behind so many prefixes
+abbrev pub turned : ℕ → PlainExpr
+turned zero = PlainExpr.Named (codes "a")
+turned (suc n) = PlainExpr.Unary 17 (turned n)
+
+-- the words of it; where they stand in a text doesn't matter
+abbrev pub turned_words : ℕ → List Word
+turned_words zero = words (codes "a") (named 0 1 ∷ [])
+turned_words (suc n) = words (codes "~") (signed 19 0 1 ∷ []) ++ turned_words n

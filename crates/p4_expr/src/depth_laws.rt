@@ -11,7 +11,9 @@ pub fn law_of_greater_depths()
     ensures { (depth more : ℕ) (e : PlainExpr) (ws : List Word) → depth ≤ more → SpellsExpr depth e ws → SpellsExpr more e ws }
 {}
 
-/// No more brackets are open at a word of an expression than the depth says, under which it is spelled.
+/// The depth is the number of brackets that are open at a word: no more are open than the depth says, and what is spelled at
+/// all is spelled within each depth that is as great.
 pub fn law_of_open_brackets()
-    ensures { (depth : ℕ) (e : PlainExpr) (ws : List Word) → SpellsExpr depth e ws → most_open ws ≤ depth }
+    ensures at_most { (depth : ℕ) (e : PlainExpr) (ws : List Word) → SpellsExpr depth e ws → most_open ws ≤ depth }
+    ensures as_many { (depth more : ℕ) (e : PlainExpr) (ws : List Word) → SpellsExpr depth e ws → most_open ws ≤ more → SpellsExpr more e ws }
 {}

@@ -1,12 +1,13 @@
 //! Examples of what the grammar spells: laws over the definitions, each the contract of an empty function.
 
-ghost use Rattle.std.specs.Prelude.{◌≡◌, [], ◌∷◌, None, codes, drop, take};
+ghost use Rattle.std.specs.Prelude.{◌≡◌, ℕ, ◌≤◌, List, [], ◌∷◌, None, codes, drop, take};
 ghost use Rattle.elastic_ast.specs.declared.statements.Amount.TheVariants as Amount;
 ghost use Rattle.elastic_ast.specs.Operators.{Operator};
 ghost use Rattle.elastic_ast.specs.Tree.{PlainExpr};
+ghost use Rattle.spelling.specs.Words.{Word};
 ghost use Rattle.p4_expr.specs.Operators.{SpellsOperator};
 ghost use Rattle.p4_expr.specs.Expressions.{SpellsExpr};
-ghost use Rattle.p4_expr.specs.Examples.{product_in_sum, two_differences, name_in_brackets, shift, parted_shift, four_bits, byte_of_name, two_prefixes, shift_of_sum, and_in_equation, turned_slice, byte_of_sum, hash_of_name, validity, operators_by_code};
+ghost use Rattle.p4_expr.specs.Examples.{product_in_sum, two_differences, name_in_brackets, shift, parted_shift, four_bits, byte_of_name, two_prefixes, shift_of_sum, and_in_equation, turned_slice, byte_of_sum, hash_of_name, validity, operators_by_code, turned, turned_words};
 
 /// The level and the text of each operator, in the order of their codes. Level 10 is the weakest.
 pub fn operators_stand_at_their_levels()
@@ -39,4 +40,10 @@ pub fn more_examples_are_spelled()
     ensures cast_of_sum { SpellsExpr 1 (PlainExpr.Cast 8 (PlainExpr.Binary 13 (PlainExpr.Named (codes "a")) (PlainExpr.Named (codes "b")))) byte_of_sum }
     ensures hash { SpellsExpr 1 (PlainExpr.Hash (Amount.Named (codes "i")) (PlainExpr.Named (codes "x")) (Amount.Num 7)) hash_of_name }
     ensures header { SpellsExpr 1 (PlainExpr.IsValid (codes "h")) validity }
+{}
+
+/// A name behind so many prefixes is an expression where these are at most 64, and no words spell it otherwise.
+pub fn at_most_64_operators_are_spelled()
+    ensures spelled { (n : ℕ) → n ≤ 64 → SpellsExpr 0 (turned n) (turned_words n) }
+    ensures only { (n depth : ℕ) (ws : List Word) → SpellsExpr depth (turned n) ws → n ≤ 64 }
 {}

@@ -1,8 +1,8 @@
 -- The trees of the examples of statements, and that an `if` without `else` is open.
-use Rattle.std.proofs.Common.{◌≡◌, ℕ, suc, Bool, true, false, List, [], ◌∷◌, codes, refl, None, Some, lit<, lit≤}
+use Rattle.std.proofs.Common.{◌≡◌, ℕ, suc, Bool, true, false, List, [], ◌∷◌, ◌++◌, codes, refl, sym, subst, None, Some, lit<, lit≤}
 use Rattle.p4_lexer.specs.declared.token.Kind.TheVariants as kind
 use Rattle.elastic_ast.specs.Tree.{Name, PlainExpr, PlainStmt, PlainStmts}
-use Rattle.spelling.specs.Grammar.{IsNamed}
+use Rattle.spelling.specs.Grammar.{Begins, IsNamed, IsSign}
 use Rattle.spelling.specs.Words.{Word}
 use Rattle.p4_expr.specs.Operators.{operators_in}
 use Rattle.p4_expr.specs.Expressions.{SpellsExpr}
@@ -57,12 +57,11 @@ stage_branch_tree =
     SpellsStmt.without_else {open_end = false} _ _
     (condition_of_name 2 (codes "a") _ _ _ _ refl refl refl refl refl refl refl refl)
     (SpellsBranch.alone refl
-    (SpellsStmt.block (_ ∷ _ ∷ _ ∷ _ ∷ _ ∷ []) _ (_ ∷ _ ∷ _ ∷ _ ∷ []) _
-    (
+    (SpellsStmt.block (_ ∷ _ ∷ _ ∷ _ ∷ _ ∷ []) _ (_ ∷ _ ∷ _ ∷ _ ∷ []) _ (
       lit< tt,
       sign_first (codes "@") 30 _ _ refl refl
-      (name_first (codes "stage") _ _ refl refl
-      (sign_first (codes "(") 2 _ _ refl refl record { front = _ ∷ []; back = _ ∷ []; joined = refl; first = word_last _ refl; second = sign_last (codes ")") 3 _ refl refl })),
+          (name_first (codes "stage") _ _ refl refl
+          (sign_first (codes "(") 2 _ _ refl refl record { front = _ ∷ []; back = _ ∷ []; joined = refl; first = word_last _ refl; second = sign_last (codes ")") 3 _ refl refl })),
     )
     (sign_last (codes "{") 0 _ refl refl)
     (SpellsStmts.one_more {open_end = false} _ [] (SpellsStmt.called (call_of_name 0 (codes "x") _ _ _ _ refl refl refl refl refl refl refl refl)) SpellsStmts.no_more refl)
@@ -82,3 +81,11 @@ no_depth_no_if open_end condition then_stmts ws (SpellsStmt.simple h) = h
 pub no_depth_no_else : (open_end : Bool) (condition : PlainExpr) (then_stmts else_stmts : PlainStmts) (ws : List Word) → SpellsStmt 0 open_end (PlainStmt.IfElse condition then_stmts else_stmts) ws → ⊥
 no_depth_no_else open_end condition then_stmts else_stmts ws (SpellsStmt.with_else front first between second c f i s e) = c.second
 no_depth_no_else open_end condition then_stmts else_stmts ws (SpellsStmt.simple h) = h
+
+-- so an open branch before an `else` is in brackets
+pub open_branch_in_brackets : (depth : ℕ) (condition : PlainExpr) (then_stmts : PlainStmts) (ws : List Word) → SpellsBranch depth false (PlainStmts.cons (PlainStmt.If condition then_stmts) PlainStmts.nil) ws → Begins (IsSign (codes "{")) ws
+open_branch_in_brackets depth condition then_stmts ws (SpellsBranch.in_brackets opening inside closing o h c e) =
+    let Opens : List Word → Type 0 = λ l. Begins (IsSign (codes "{")) (l ++ inside ++ closing) in
+    let first : Opens (o.word ∷ []) = o.is_this in
+    subst (Begins (IsSign (codes "{"))) (sym e) (subst Opens (sym o.alone) first)
+open_branch_in_brackets depth condition then_stmts ws (SpellsBranch.alone {depth = inner} other h) = let e : false ≡ true = if_is_open inner false condition then_stmts ws h in absurd cc

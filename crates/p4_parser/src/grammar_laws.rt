@@ -4,10 +4,11 @@ ghost use Rattle.std.specs.Prelude.{◌≡◌, ℕ, ◌≤◌, Bool, true, false
 ghost use Rattle.elastic_ast.specs.Tree.{PlainExpr, PlainStmt, PlainStmts, PlainTable, PlainProgram};
 ghost use Rattle.elastic_ast.specs.declared.declarations.Key.{Key};
 ghost use Rattle.spelling.specs.Words.{Word};
+ghost use Rattle.spelling.specs.Grammar.{Begins, IsSign};
 ghost use Rattle.spelling.specs.Brackets.{most_open};
 ghost use Rattle.p4_parser.specs.Tables.{Property, SpellsTable};
 ghost use Rattle.p4_parser.specs.Grammar.{Spells};
-ghost use Rattle.p4_parser.specs.Statements.{SpellsStmt, SpellsStmts};
+ghost use Rattle.p4_parser.specs.Statements.{SpellsStmt, SpellsStmts, SpellsBranch};
 ghost use Rattle.p4_parser.specs.Declarations.{SpellsProgram};
 
 /// What the grammar of symbols, comparisons, the utility and the metadata spells, the grammar of whole programs spells.
@@ -15,9 +16,10 @@ pub fn law_of_first_declarations()
     ensures { (depth : ℕ) (decls : PlainProgram) (ws : List Word) → Spells depth decls ws → SpellsProgram depth decls ws }
 {}
 
-/// An `if` without `else` is always open, so it is no first branch of an `if` with `else`, unless brackets are around it.
+/// An `if` without `else` is always open, and so, as the first branch of an `if` with `else`, it has brackets around it.
 pub fn law_of_open_ends()
-    ensures { (depth : ℕ) (open_end : Bool) (condition : PlainExpr) (then_stmts : PlainStmts) (ws : List Word) → SpellsStmt depth open_end (PlainStmt.If condition then_stmts) ws → open_end ≡ true }
+    ensures branch { (depth : ℕ) (condition : PlainExpr) (then_stmts : PlainStmts) (ws : List Word) → SpellsBranch depth false (PlainStmts.cons (PlainStmt.If condition then_stmts) PlainStmts.nil) ws → Begins (IsSign (codes "{")) ws }
+    ensures alone { (depth : ℕ) (open_end : Bool) (condition : PlainExpr) (then_stmts : PlainStmts) (ws : List Word) → SpellsStmt depth open_end (PlainStmt.If condition then_stmts) ws → open_end ≡ true }
 {}
 
 /// No table is spelled with a key property behind a key property, even where both are empty.

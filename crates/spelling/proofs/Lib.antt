@@ -4,3 +4,4 @@ pub mod Taking
 pub mod Whole
 pub mod Balance
 pub mod Deeper
+pub mod Exactly
