@@ -1,21 +1,22 @@
 -- The trees of the examples.
 use Rattle.std.proofs.Common.{[], ◌∷◌, codes, refl, None, lit<, lit≤}
+use Rattle.elastic_ast.specs.Operators.{ShiftDown, Plus, Minus, Times, Turn, Negate}
 use Rattle.elastic_ast.specs.Tree.{PlainExpr}
 use Rattle.p4_expr.specs.Operators.{operators_in}
 use Rattle.p4_expr.specs.Expressions.{SpellsLevel, SpellsPrefixed, SpellsPrimary, SpellsExpr}
 use Rattle.p4_expr.specs.Examples.{product_in_sum, two_differences, name_in_brackets, shift, four_bits, byte_of_name, two_prefixes}
-use Rattle.p4_expr.proofs.Building.{is_sign, is_reserved, word_first, word_last, placed_last, is_plus, is_minus, is_times, is_shift, is_tilde, is_bang, plus_is_one, minus_is_one, times_is_one, tilde_is_one, bang_is_one, one_sign, two_signs, primary_name, prefixed_name, one_name, one_number, from_none, from_two, from_three}
+use Rattle.p4_expr.proofs.Building.{sign_first, sign_last, reserved_first, word_first, word_last, is_plus, is_minus, is_times, is_shift_down, is_turn, is_negate, touching, primary_name, prefixed_name, one_name, one_number, from_none, from_two, from_three}
 
 pub sum_tree : SpellsExpr 0 (PlainExpr.Binary 13 (PlainExpr.Named (codes "a")) (PlainExpr.Binary 16 (PlainExpr.Named (codes "b")) (PlainExpr.Named (codes "c")))) product_in_sum
 unfolding operators_in
 sum_tree = (
   from_two 0 _ product_in_sum
-      (SpellsLevel.binary (codes "+") _ _ _ is_plus
+      (SpellsLevel.binary Plus _ _ _ is_plus
       (SpellsLevel.stronger (SpellsLevel.stronger (one_name 0 (codes "a") _ refl refl)))
-      (one_sign (codes "+") 13 _ plus_is_one refl refl)
-      (SpellsLevel.binary (codes "*") _ _ _ is_times
+      (sign_last (codes "+") 13 _ refl refl)
+      (SpellsLevel.binary Times _ _ _ is_times
       (SpellsLevel.stronger (one_name 0 (codes "b") _ refl refl))
-      (one_sign (codes "*") 15 _ times_is_one refl refl)
+      (sign_last (codes "*") 15 _ refl refl)
       (one_name 0 (codes "c") _ refl refl)
       refl)
       refl),
@@ -26,13 +27,13 @@ pub differences_tree : SpellsExpr 0 (PlainExpr.Binary 14 (PlainExpr.Binary 14 (P
 unfolding operators_in
 differences_tree = (
   from_two 0 _ two_differences
-      (SpellsLevel.binary (codes "-") _ _ _ is_minus
-      (SpellsLevel.binary (codes "-") _ _ _ is_minus
+      (SpellsLevel.binary Minus _ _ _ is_minus
+      (SpellsLevel.binary Minus _ _ _ is_minus
       (SpellsLevel.stronger (SpellsLevel.stronger (one_name 0 (codes "a") _ refl refl)))
-      (one_sign (codes "-") 14 _ minus_is_one refl refl)
+      (sign_last (codes "-") 14 _ refl refl)
       (SpellsLevel.stronger (one_name 0 (codes "b") _ refl refl))
       refl)
-      (one_sign (codes "-") 14 _ minus_is_one refl refl)
+      (sign_last (codes "-") 14 _ refl refl)
       (SpellsLevel.stronger (one_name 0 (codes "c") _ refl refl))
       refl),
   lit≤ tt,
@@ -42,7 +43,7 @@ pub brackets_tree : SpellsExpr 1 (PlainExpr.Named (codes "a")) name_in_brackets
 unfolding operators_in
 brackets_tree = (
   from_none 1 _ name_in_brackets (SpellsLevel.prefixed (SpellsPrefixed.primary
-      (SpellsPrimary.bracketed _ _ _ (placed_last _ (is_sign (codes "(") 2 _ refl refl)) (from_none 0 _ _ (one_name 0 (codes "a") _ refl refl)) (placed_last _ (is_sign (codes ")") 3 _ refl refl)) refl))),
+      (SpellsPrimary.bracketed _ _ _ (sign_last (codes "(") 2 _ refl refl) (from_none 0 _ _ (one_name 0 (codes "a") _ refl refl)) (sign_last (codes ")") 3 _ refl refl) refl))),
   lit≤ tt,
 )
 
@@ -50,9 +51,9 @@ pub shift_tree : SpellsExpr 0 (PlainExpr.Binary 12 (PlainExpr.Named (codes "x"))
 unfolding operators_in
 shift_tree = (
   from_three 0 _ shift
-      (SpellsLevel.binary (codes ">>") _ _ _ is_shift
+      (SpellsLevel.binary ShiftDown _ _ _ is_shift_down
       (SpellsLevel.stronger (SpellsLevel.stronger (SpellsLevel.stronger (one_name 0 (codes "x") _ refl refl))))
-      (two_signs _ _ (is_sign (codes ">") 7 _ refl refl) (is_sign (codes ">") 7 _ refl refl) refl)
+      (touching _ _ refl refl refl refl refl)
       (SpellsLevel.stronger (SpellsLevel.stronger (one_number 0 2 _ (lit< tt) refl)))
       refl),
   lit≤ tt,
@@ -64,13 +65,13 @@ slice_tree = (
   from_none 1 _ four_bits (SpellsLevel.prefixed (SpellsPrefixed.primary
       (SpellsPrimary.slice _ _ (primary_name 1 (codes "h") _ refl refl) (
         (lit< tt, lit< tt),
-        word_first _ _ (is_sign (codes "[") 4 _ refl refl)
+        sign_first (codes "[") 4 _ _ refl refl
             record {
               front = _ ∷ _ ∷ _ ∷ [];
               back = _ ∷ [];
               joined = refl;
-              first = word_first _ _ refl (word_first _ _ (is_sign (codes ":") 9 _ refl refl) (word_last _ refl));
-              second = word_last _ (is_sign (codes "]") 5 _ refl refl);
+              first = word_first _ _ refl (sign_first (codes ":") 9 _ _ refl refl (word_last _ refl));
+              second = sign_last (codes "]") 5 _ refl refl;
             },
       )
       refl))),
@@ -82,13 +83,13 @@ unfolding operators_in
 cast_tree = (
   from_none 1 _ byte_of_name (SpellsLevel.prefixed
       (SpellsPrefixed.cast (_ ∷ _ ∷ _ ∷ _ ∷ _ ∷ _ ∷ []) _
-      (word_first _ _ (is_sign (codes "(") 2 _ refl refl)
+      (sign_first (codes "(") 2 _ _ refl refl
       record {
         front = _ ∷ _ ∷ _ ∷ _ ∷ [];
         back = _ ∷ [];
         joined = refl;
-        first = (lit< tt, word_first _ _ (is_reserved (codes "bit") 1 _ refl refl) (word_first _ _ (is_sign (codes "<") 6 _ refl refl) (word_first _ _ refl (word_last _ (is_sign (codes ">") 7 _ refl refl)))));
-        second = word_last _ (is_sign (codes ")") 3 _ refl refl);
+        first = (lit< tt, reserved_first (codes "bit") 1 _ _ refl refl (sign_first (codes "<") 6 _ _ refl refl (word_first _ _ refl (sign_last (codes ">") 7 _ refl refl))));
+        second = sign_last (codes ")") 3 _ refl refl;
       })
       (prefixed_name 1 (codes "x") _ refl refl)
       refl)),
@@ -99,8 +100,8 @@ pub prefixes_tree : SpellsExpr 0 (PlainExpr.Unary 17 (PlainExpr.Unary 18 (PlainE
 unfolding operators_in
 prefixes_tree = (
   from_none 0 _ two_prefixes (SpellsLevel.prefixed
-      (SpellsPrefixed.unary (codes "~") _ _ is_tilde (one_sign (codes "~") 19 _ tilde_is_one refl refl)
-      (SpellsPrefixed.unary (codes "!") _ _ is_bang (one_sign (codes "!") 20 _ bang_is_one refl refl) (prefixed_name 0 (codes "x") _ refl refl) refl)
+      (SpellsPrefixed.unary Turn _ _ is_turn (sign_last (codes "~") 19 _ refl refl)
+      (SpellsPrefixed.unary Negate _ _ is_negate (sign_last (codes "!") 20 _ refl refl) (prefixed_name 0 (codes "x") _ refl refl) refl)
       refl)),
   lit≤ tt,
 )

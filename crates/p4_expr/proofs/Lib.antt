@@ -1,4 +1,9 @@
-pub mod BareWords
 pub mod Building
 pub mod ExampleTrees
 pub mod PartedSigns
+pub mod PartsWithin
+pub mod ExprWithin
+pub mod ExprDeeper
+pub mod MoreTrees
+pub mod ExprExact
+pub mod ManyPrefixes

@@ -1,14 +1,15 @@
 -- Two signs `>` with a space between them are no operator.
-use Rattle.std.proofs.Common.{◌≡◌, ℕ, List, [], ◌∷◌, drop, take, inl, inr, sym, ap, ◌∙◌, arith}
-use Rattle.p4_expr.specs.PlacedWords.{PlacedWord}
-use Rattle.p4_expr.specs.PlacedGrammar.{One, TwoTouching}
+use Rattle.std.proofs.Common.{◌≡◌, ℕ, List, [], ◌∷◌, drop, take, sym, ap, ◌∙◌, arith}
+use Rattle.spelling.specs.Words.{Word}
+use Rattle.spelling.specs.Grammar.{One, Sign, TwoTouching}
+use Rattle.elastic_ast.specs.Operators.{Operator, Or, And, Equal, Differ, Less, AtMost, Greater, AtLeast, BitOr, BitXor, BitAnd, ShiftUp, ShiftDown, Plus, Minus, Join, Times, Turn, Negate, NoOperator}
 use Rattle.p4_expr.specs.Operators.{SpellsOperator}
 use Rattle.p4_expr.specs.Examples.{parted_shift}
 
-pub not_one : (P : PlacedWord → Type 0) (a b : PlacedWord) → One P (a ∷ b ∷ []) → ⊥
+pub not_one : (P : Word → Type 0) (a b : Word) → One P (a ∷ b ∷ []) → ⊥
 not_one P a b h = let e : a ∷ b ∷ [] ≡ h.word ∷ [] = h.alone in cc
 
-pub ends_there : (P Q : PlacedWord → Type 0) (a b : PlacedWord) → TwoTouching P Q (a ∷ b ∷ []) → a.end ≡ b.at
+pub ends_there : (P Q : Word → Type 0) (a b : Word) → TwoTouching P Q (a ∷ b ∷ []) → a.end ≡ b.at
 ends_there P Q a b h =
     let e : a ∷ b ∷ [] ≡ h.one ∷ h.other ∷ [] = h.both in
     let one : a ≡ h.one = cc in
@@ -18,6 +19,27 @@ ends_there P Q a b h =
 pub three_is_not_four : let three : ℕ = 3 in three ≡ 4 → ⊥
 three_is_not_four h = omega arith
 
-pub not_shift : (text : List ℕ) → SpellsOperator text (take 2 (drop 1 parted_shift)) → ⊥
-not_shift text (inl h) = not_one _ _ _ h.1
-not_shift text (inr h) = three_is_not_four (ends_there _ _ _ _ h.1)
+pub not_sign : (text : List ℕ) → Sign text (take 2 (drop 1 parted_shift)) → ⊥
+not_sign text h = not_one _ _ _ h
+
+pub not_operator : (operator : Operator) → SpellsOperator operator (take 2 (drop 1 parted_shift)) → ⊥
+not_operator ShiftDown h = three_is_not_four (ends_there _ _ _ _ h)
+not_operator NoOperator h = absurd h
+not_operator Or h = not_sign _ h
+not_operator And h = not_sign _ h
+not_operator Equal h = not_sign _ h
+not_operator Differ h = not_sign _ h
+not_operator Less h = not_sign _ h
+not_operator AtMost h = not_sign _ h
+not_operator Greater h = not_sign _ h
+not_operator AtLeast h = not_sign _ h
+not_operator BitOr h = not_sign _ h
+not_operator BitXor h = not_sign _ h
+not_operator BitAnd h = not_sign _ h
+not_operator ShiftUp h = not_sign _ h
+not_operator Plus h = not_sign _ h
+not_operator Minus h = not_sign _ h
+not_operator Join h = not_sign _ h
+not_operator Times h = not_sign _ h
+not_operator Turn h = not_sign _ h
+not_operator Negate h = not_sign _ h

@@ -1,5 +1,3 @@
-pub mod PlacedWords
-pub mod PlacedGrammar
 pub mod Parts
 pub mod Operators
 pub mod Expressions

@@ -1,38 +1,70 @@
--- The operators of expressions, their levels and their signs, in the manner of the grammar of the P4-16 language
--- specification 1.2.3; the levels are this project's own.
-use Rattle.std.specs.Prelude.{◌≡◌, ◌≢◌, ℕ, ◌+◌, List, [], ◌∷◌, Some, slice_get, codes, ◌⊎◌}
-use Rattle.spelling.specs.Grammar.{IsSign}
+-- The level and the sign of each operator, how operators are spelled, and how many an expression has, in the manner of the
+-- grammar of the P4-16 language specification 1.2.3; the levels are this project's own.
+use Rattle.std.specs.Prelude.{◌≡◌, ℕ, ◌+◌, List, [], Some, slice_get, codes}
+use Rattle.spelling.specs.Grammar.{Grammar, Nothing, IsSign, Sign, TwoTouching}
+use Rattle.elastic_ast.specs.Operators.{Operator, Or, And, Equal, Differ, Less, AtMost, Greater, AtLeast, BitOr, BitXor, BitAnd, ShiftUp, ShiftDown, Plus, Minus, Join, Times, Turn, Negate, NoOperator, operators}
 use Rattle.elastic_ast.specs.Tree.{PlainExpr}
-use Rattle.p4_expr.specs.PlacedGrammar.{PlacedGrammar, Sign, TwoTouching}
 
--- Each operator's level and text; its code is the number of those before it. The weakest level stands first. Levels are
--- counted from the strongest on: 0 is that of the prefixed operators.
-unfoldable pub operators : List (ℕ × List ℕ)
-operators =
-    (10, codes "||") ∷
-    (9, codes "&&") ∷
-    (8, codes "==") ∷ (8, codes "!=") ∷
-    (7, codes "<") ∷ (7, codes "<=") ∷ (7, codes ">") ∷ (7, codes ">=") ∷
-    (6, codes "|") ∷
-    (5, codes "^") ∷
-    (4, codes "&") ∷
-    (3, codes "<<") ∷ (3, codes ">>") ∷
-    (2, codes "+") ∷ (2, codes "-") ∷ (2, codes "++") ∷
-    (1, codes "*") ∷
-    (0, codes "~") ∷ (0, codes "!") ∷ []
+-- Levels are counted from the strongest on: 0 is that of the prefixed operators, and each level above it is that of some
+-- binary operators.
+abbrev pub level_of : Operator → ℕ
+level_of Or = 10
+level_of And = 9
+level_of Equal = 8
+level_of Differ = 8
+level_of Less = 7
+level_of AtMost = 7
+level_of Greater = 7
+level_of AtLeast = 7
+level_of BitOr = 6
+level_of BitXor = 5
+level_of BitAnd = 4
+level_of ShiftUp = 3
+level_of ShiftDown = 3
+level_of Plus = 2
+level_of Minus = 2
+level_of Join = 2
+level_of Times = 1
+level_of Turn = 0
+level_of Negate = 0
+level_of NoOperator = 0
 
 abbrev pub weakest : ℕ
 weakest = 10
 
--- the operator with this code stands at this level and has this text
-abbrev pub IsOperator : ℕ → ℕ → List ℕ → Type 0
-IsOperator level op text = slice_get operators op ≡ Some (level, text)
+-- what an operator looks like
+abbrev pub text_of : Operator → List ℕ
+text_of Or = codes "||"
+text_of And = codes "&&"
+text_of Equal = codes "=="
+text_of Differ = codes "!="
+text_of Less = codes "<"
+text_of AtMost = codes "<="
+text_of Greater = codes ">"
+text_of AtLeast = codes ">="
+text_of BitOr = codes "|"
+text_of BitXor = codes "^"
+text_of BitAnd = codes "&"
+text_of ShiftUp = codes "<<"
+text_of ShiftDown = codes ">>"
+text_of Plus = codes "+"
+text_of Minus = codes "-"
+text_of Join = codes "++"
+text_of Times = codes "*"
+text_of Turn = codes "~"
+text_of Negate = codes "!"
+text_of NoOperator = []
 
--- an operator is one sign, but `>>` is two signs `>` that touch
-abbrev pub SpellsOperator : List ℕ → PlacedGrammar
-SpellsOperator text ws =
-    ((text ≢ codes ">>") × Sign text ws)
-    ⊎ ((text ≡ codes ">>") × TwoTouching (λ w. IsSign (codes ">") w.word) (λ w. IsSign (codes ">") w.word) ws)
+-- the code is that of this operator, which stands at this level
+pub record IsOperator (level code : ℕ) (operator : Operator) : Type 0 where
+  pub coded : slice_get operators code ≡ Some operator
+  pub level_is : level_of operator ≡ level
+
+-- An operator is one sign, but `>>` is two signs `>` that touch, as the two may close two types too.
+abbrev pub SpellsOperator : Operator → Grammar
+SpellsOperator ShiftDown = TwoTouching (IsSign (codes ">")) (IsSign (codes ">"))
+SpellsOperator NoOperator = Nothing
+SpellsOperator operator = Sign (text_of operator)
 
 -- how many operators an expression has: unary and binary signs, casts, slices, `hash` and `isValid`
 unfoldable pub operators_in : PlainExpr → ℕ

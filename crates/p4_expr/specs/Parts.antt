@@ -1,6 +1,6 @@
 -- The parts of expressions and statements that have no expression in them, in the manner of the grammar of the P4-16
--- language specification 1.2.3; this project's own. Each needs the words alone.
-use Rattle.std.specs.Prelude.{◌≡◌, ℕ, ◌<◌, ◌^◌, Bool, true, false, List, [], ◌∷◌, Option, None, Some, codes}
+-- language specification 1.2.3; this project's own.
+use Rattle.std.specs.Prelude.{◌≡◌, ℕ, ◌<◌, ◌^◌, Bool, true, false, List, Option, None, Some, codes}
 use Rattle.p4_lexer.specs.declared.token.Kind.TheVariants as kind
 use Rattle.elastic_ast.specs.declared.statements.Amount.{Amount}
 use Rattle.elastic_ast.specs.declared.statements.Amount.TheVariants as amount
@@ -8,7 +8,7 @@ use Rattle.elastic_ast.specs.declared.statements.Lval.{Lval}
 use Rattle.elastic_ast.specs.declared.statements.Lval.TheVariants as lval
 use Rattle.elastic_ast.specs.declared.statements.RegRef.{RegRef}
 use Rattle.spelling.specs.Words.{Word}
-use Rattle.spelling.specs.Grammar.{Grammar, Empty, One, ◌⨟◌, Where, Each, Sign, Reserved, Named, Num, Bracketed}
+use Rattle.spelling.specs.Grammar.{Grammar, Empty, One, ◌⨟◌, Where, Sign, Reserved, Named, Num, Bracketed}
 
 abbrev pub IsNumber : Option ℕ → ℕ → Word → Type 0
 IsNumber width value word = word.kind ≡ kind.Number width value
@@ -21,11 +21,6 @@ FitsWidth (Some width) = width < 2 ^ 8
 -- V: any number, with a width or without one
 abbrev pub SpellsNumber : Option ℕ → ℕ → Grammar
 SpellsNumber width value = Where (FitsWidth width × (value < 2 ^ 128)) (One (IsNumber width value))
-
--- the things of a list with a comma between each two, perhaps none
-abbrev pub Commas : {A : Type 0} → (A → Grammar) → List A → Grammar
-Commas Of [] = Empty
-Commas Of (x ∷ xs) = Of x ⨟ Each (λ y. Sign (codes ",") ⨟ Of y) xs
 
 -- 'true' | 'false'
 abbrev pub SpellsTruth : Bool → Grammar

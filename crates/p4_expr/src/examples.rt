@@ -1,13 +1,18 @@
 //! Examples of what the grammar spells: laws over the definitions, each the contract of an empty function.
 
-ghost use Rattle.std.specs.Prelude.{◌≡◌, ℕ, List, [], ◌∷◌, None, codes, drop, take};
+ghost use Rattle.std.specs.Prelude.{◌≡◌, ℕ, ◌≤◌, List, [], ◌∷◌, None, codes, drop, take};
+ghost use Rattle.elastic_ast.specs.declared.statements.Amount.TheVariants as Amount;
+ghost use Rattle.elastic_ast.specs.Operators.{Operator};
 ghost use Rattle.elastic_ast.specs.Tree.{PlainExpr};
-ghost use Rattle.p4_lexer.specs.declared.token.Token.{Token};
-ghost use Rattle.spelling.specs.Words.{words};
-ghost use Rattle.p4_expr.specs.PlacedWords.{placed_words, bare};
+ghost use Rattle.spelling.specs.Words.{Word};
 ghost use Rattle.p4_expr.specs.Operators.{SpellsOperator};
 ghost use Rattle.p4_expr.specs.Expressions.{SpellsExpr};
-ghost use Rattle.p4_expr.specs.Examples.{product_in_sum, two_differences, name_in_brackets, shift, parted_shift, four_bits, byte_of_name, two_prefixes};
+ghost use Rattle.p4_expr.specs.Examples.{product_in_sum, two_differences, name_in_brackets, shift, parted_shift, four_bits, byte_of_name, two_prefixes, shift_of_sum, and_in_equation, turned_slice, byte_of_sum, hash_of_name, validity, operators_by_code, turned, turned_words};
+
+/// The level and the text of each operator, in the order of their codes. Level 10 is the weakest.
+pub fn operators_stand_at_their_levels()
+    ensures { operators_by_code ≡ (10, codes "||") ∷ (9, codes "&&") ∷ (8, codes "==") ∷ (8, codes "!=") ∷ (7, codes "<") ∷ (7, codes "<=") ∷ (7, codes ">") ∷ (7, codes ">=") ∷ (6, codes "|") ∷ (5, codes "^") ∷ (4, codes "&") ∷ (3, codes "<<") ∷ (3, codes ">>") ∷ (2, codes "+") ∷ (2, codes "-") ∷ (2, codes "++") ∷ (1, codes "*") ∷ (0, codes "~") ∷ (0, codes "!") ∷ [] }
+{}
 
 /// Small texts and the tree of each: a product within a sum, differences that group to the left, brackets, a shift, a slice,
 /// a cast, and two prefixes. The number before a tree is how many brackets may be open.
@@ -23,10 +28,22 @@ pub fn examples_are_spelled()
 
 /// Two signs `>` with a space between them are no operator.
 pub fn parted_signs_are_no_operator()
-    ensures { (text : List ℕ) → SpellsOperator text (take 2 (drop 1 parted_shift)) → ⊥ }
+    ensures { (operator : Operator) → SpellsOperator operator (take 2 (drop 1 parted_shift)) → ⊥ }
 {}
 
-/// The words with their places are the words, if the places are left out.
-pub fn law_of_bare_words()
-    ensures { (text : List ℕ) (tokens : List Token) → bare (placed_words text tokens) ≡ words text tokens }
+/// More texts and the tree of each: a shift by a sum, an equation of an `&`, a prefix before a slice, a cast of a sum in brackets,
+/// a hash, and a test of a header.
+pub fn more_examples_are_spelled()
+    ensures shift_by_sum { SpellsExpr 0 (PlainExpr.Binary 11 (PlainExpr.Named (codes "a")) (PlainExpr.Binary 13 (PlainExpr.Named (codes "b")) (PlainExpr.Named (codes "c")))) shift_of_sum }
+    ensures equation { SpellsExpr 0 (PlainExpr.Binary 2 (PlainExpr.Named (codes "a")) (PlainExpr.Binary 10 (PlainExpr.Named (codes "b")) (PlainExpr.Named (codes "c")))) and_in_equation }
+    ensures prefix_of_slice { SpellsExpr 1 (PlainExpr.Unary 17 (PlainExpr.Slice (PlainExpr.Named (codes "x")) 3 0)) turned_slice }
+    ensures cast_of_sum { SpellsExpr 1 (PlainExpr.Cast 8 (PlainExpr.Binary 13 (PlainExpr.Named (codes "a")) (PlainExpr.Named (codes "b")))) byte_of_sum }
+    ensures hash { SpellsExpr 1 (PlainExpr.Hash (Amount.Named (codes "i")) (PlainExpr.Named (codes "x")) (Amount.Num 7)) hash_of_name }
+    ensures header { SpellsExpr 1 (PlainExpr.IsValid (codes "h")) validity }
+{}
+
+/// A name behind so many prefixes is an expression where these are at most 64, and no words spell it otherwise.
+pub fn at_most_64_operators_are_spelled()
+    ensures spelled { (n : ℕ) → n ≤ 64 → SpellsExpr 0 (turned n) (turned_words n) }
+    ensures only { (n depth : ℕ) (ws : List Word) → SpellsExpr depth (turned n) ws → n ≤ 64 }
 {}

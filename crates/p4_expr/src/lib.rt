@@ -1,6 +1,11 @@
 //! The expressions of a program: which words spell one, and which tree these are.
 #![tactic(auto)]
 
+mod depth_laws;
 mod examples;
 
-pub use examples::{examples_are_spelled, law_of_bare_words, parted_signs_are_no_operator};
+pub use depth_laws::{law_of_greater_depths, law_of_open_brackets};
+pub use examples::{
+    at_most_64_operators_are_spelled, examples_are_spelled, more_examples_are_spelled,
+    operators_stand_at_their_levels, parted_signs_are_no_operator,
+};

@@ -6,7 +6,8 @@ use Rattle.spelling.specs.Grammar.{Grammar, ◌⨟◌, Begins, Bracketed, IsSign
 use Rattle.spelling.specs.Reading.{MayTake, Ends}
 use Rattle.spelling.proofs.Only.{begins_bracketed, begins_first, empty_same, not_sign, of_where, reserved_no_sign, split}
 use Rattle.p4_parser.specs.GoesOn.{size_signs}
-use Rattle.p4_parser.specs.Grammar.{SpellsSize, SpellsMetaField}
+use Rattle.p4_expr.specs.Parts.{SpellsIndex}
+use Rattle.p4_parser.specs.Flat.{SpellsMetaField}
 
 pub same_field : (f g : Field) → f.name ≡ g.name → f.width ≡ g.width → f.size ≡ g.size → f ≡ g
 same_field f g name width size =
@@ -26,11 +27,11 @@ pub record Sized (depth : ℕ) (size : Option (List ℕ)) (a rest : List Word) :
   pub ahead : MayTake (Bracketed (codes "[") (codes "]") depth (λ _. Named symbol)) a rest
 
 -- where an opening bracket stands, there is a size
-pub size_there : (depth : ℕ) (size : Option (List ℕ)) {a rest : List Word} → MayTake (SpellsSize depth size) a rest → Ends size_signs rest → Begins (IsSign (codes "[")) a → Sized depth size a rest
+pub size_there : (depth : ℕ) (size : Option (List ℕ)) {a rest : List Word} → MayTake (SpellsIndex depth size) a rest → Ends size_signs rest → Begins (IsSign (codes "[")) a → Sized depth size a rest
 size_there depth None m ends at = absurd (ends.0 (subst (Begins (IsSign (codes "["))) (empty_same m) at))
 size_there depth (Some symbol) m ends at = record { symbol = symbol; is = refl; ahead = m }
 
 -- else there is none
-pub size_missing : (depth : ℕ) (size : Option (List ℕ)) {a rest : List Word} → MayTake (SpellsSize depth size) a rest → (Begins (IsSign (codes "[")) a → ⊥) → (None ≡ size) × (a ≡ rest)
+pub size_missing : (depth : ℕ) (size : Option (List ℕ)) {a rest : List Word} → MayTake (SpellsIndex depth size) a rest → (Begins (IsSign (codes "[")) a → ⊥) → (None ≡ size) × (a ≡ rest)
 size_missing depth None m not_at = (refl, empty_same m)
 size_missing depth (Some symbol) m not_at = absurd (not_at (begins_bracketed (codes "[") (codes "]") depth (λ _. Named symbol) m))

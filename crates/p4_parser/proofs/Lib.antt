@@ -6,3 +6,12 @@ pub mod StillSpelled
 pub mod SumSpelling
 pub mod Terms
 pub mod TwoKeys
+pub mod StatementsWithin
+pub mod StatementsDeeper
+pub mod TablesWithin
+pub mod DeclarationsWithin
+pub mod DeclarationsDeeper
+pub mod NestedConditions
+pub mod Peeling
+pub mod Refused
+pub mod DeclarationTrees

@@ -1,36 +1,13 @@
 -- What the first grammar of declarations spells, the grammar of whole programs spells too.
-use Rattle.std.proofs.Common.{◌≡◌, ℕ, zero, suc, List, [], ◌∷◌, ◌++◌, refl, sym, ◌∙◌, ap, subst}
+use Rattle.std.proofs.Common.{ℕ, zero, suc, List, [], ◌∷◌}
 use Rattle.elastic_ast.specs.declared.declarations.UtilTerm.{UtilTerm}
 use Rattle.elastic_ast.specs.declared.declarations.UtilTerm.TheVariants as util
 use Rattle.elastic_ast.specs.Tree.{PlainDecl, PlainProgram}
 use Rattle.spelling.specs.Words.{Word}
 use Rattle.spelling.specs.Grammar.{Each, FirstThenEach}
-use Rattle.p4_expr.specs.PlacedWords.{PlacedWord, bare}
 use Rattle.p4_parser.specs.Grammar.{Spells, SpellsDecl, SpellsUtility, SpellsFirstUtility, SpellsLaterUtility}
 use Rattle.p4_parser.specs.Flat.{SpellsFlat, SpellsFirstGain, SpellsLaterGain}
 use Rattle.p4_parser.specs.Declarations.{SpellsDeclaration, SpellsProgram}
-
--- words with places whose bare words are two lists in a row
-pub record Parted (front : List Word) (back : List Word) (ws : List PlacedWord) : Type 0 where
-  pub first : List PlacedWord
-  pub second : List PlacedWord
-  pub joined : ws ≡ first ++ second
-  pub front_is : bare first ≡ front
-  pub back_is : bare second ≡ back
-
-pub parted : (front back : List Word) (ws : List PlacedWord) → bare ws ≡ front ++ back → Parted front back ws
-parted [] back ws h = record { first = []; second = ws; joined = refl; front_is = refl; back_is = h }
-parted (w ∷ front) back [] h = let e : [] ≡ w ∷ (front ++ back) = h in absurd cc
-parted (w ∷ front) back (p ∷ ws) h =
-    let e : p.word ∷ bare ws ≡ w ∷ (front ++ back) = h in
-    let head : p.word ≡ w = cc in
-    let tail : bare ws ≡ front ++ back = cc in
-    let rest = parted front back ws tail in
-    record { first = p ∷ rest.first; second = rest.second; joined = ap (λ l. p ∷ l) rest.joined; front_is = ap (λ x. x ∷ bare rest.first) head ∙ ap (λ l. w ∷ l) rest.front_is; back_is = rest.back_is }
-
-pub none_are_bare : (ws : List PlacedWord) → bare ws ≡ [] → ws ≡ []
-none_are_bare [] h = refl
-none_are_bare (p ∷ ws) h = let e : p.word ∷ bare ws ≡ [] = h in absurd cc
 
 pub first_gain : (depth : ℕ) (term : UtilTerm) (ws : List Word) → SpellsFirstUtility term ws → SpellsFirstGain depth term ws
 first_gain depth (util.Lin term) ws h = h
@@ -78,10 +55,10 @@ utility_still (suc depth) terms ws h =
       };
     }
 
-pub declaration_still : (depth : ℕ) (decl : PlainDecl) (ws : List PlacedWord) → SpellsDecl depth decl (bare ws) → SpellsDeclaration depth decl ws
+pub declaration_still : (depth : ℕ) (decl : PlainDecl) (ws : List Word) → SpellsDecl depth decl ws → SpellsDeclaration depth decl ws
 declaration_still depth (PlainDecl.Symbol symbol) ws h = h
 declaration_still depth (PlainDecl.Assume comps) ws h = h
-declaration_still depth (PlainDecl.Maximize terms) ws h = utility_still depth terms (bare ws) h
+declaration_still depth (PlainDecl.Maximize terms) ws h = utility_still depth terms ws h
 declaration_still depth (PlainDecl.Meta fields) ws h = h
 declaration_still depth (PlainDecl.Include file) ws h = absurd h
 declaration_still depth (PlainDecl.Const name width value) ws h = absurd h
@@ -93,16 +70,7 @@ declaration_still depth (PlainDecl.Control name locals body) ws h = absurd h
 declaration_still depth (PlainDecl.Deparser name emits) ws h = absurd h
 declaration_still depth (PlainDecl.Main parser control deparser) ws h = absurd h
 
-pub program_still : (depth : ℕ) (decls : PlainProgram) (ws : List PlacedWord) → Spells depth decls (bare ws) → SpellsProgram depth decls ws
-program_still depth [] ws h = none_are_bare ws h
+pub program_still : (depth : ℕ) (decls : PlainProgram) (ws : List Word) → Spells depth decls ws → SpellsProgram depth decls ws
+program_still depth [] ws h = h
 program_still depth (decl ∷ decls) ws h =
-    let parts = parted h.front h.back ws h.joined in
-    let InFront : List Word → Type 0 = λ l. SpellsDecl depth decl l in
-    let Behind : List Word → Type 0 = λ l. Spells depth decls l in
-    record {
-      front = parts.first;
-      back = parts.second;
-      joined = parts.joined;
-      first = declaration_still depth decl parts.first (subst InFront (sym parts.front_is) h.first);
-      second = program_still depth decls parts.second (subst Behind (sym parts.back_is) h.second);
-    }
+    record { front = h.front; back = h.back; joined = h.joined; first = declaration_still depth decl h.front h.first; second = program_still depth decls h.back h.second }

@@ -11,7 +11,8 @@ use Rattle.spelling.specs.Grammar.{Grammar, ◌⨟◌, Each, Begins, IsNamed, Is
 use Rattle.spelling.specs.Reading.{MayTake, Ends}
 use Rattle.spelling.proofs.Only.{begins, begins_both, begins_first, empty_same, ends_sign, fact_of, of_where, regroup, split, which}
 use Rattle.p4_parser.specs.GoesOn.{comparison_signs, product_signs, sum_signs}
-use Rattle.p4_parser.specs.Grammar.{SpellsComparison, SpellsFirstTerm, SpellsFirstUtility, SpellsLaterTerm, SpellsLaterUtility, SpellsProduct}
+use Rattle.p4_parser.specs.Sums.{SpellsComparison, SpellsFirstTerm, SpellsLaterTerm, SpellsProduct}
+use Rattle.p4_parser.specs.Grammar.{SpellsFirstUtility, SpellsLaterUtility}
 use Rattle.p4_parser.proofs.Signs.{sign_follows}
 
 name_no_number : (n : List ℕ) (ws : List Word) → Begins (IsNamed n) ws → Begins (λ word. IsTrue (is_number word.kind)) ws → ⊥

@@ -8,11 +8,11 @@ use Rattle.elastic_ast.specs.declared.declarations.UtilTerm.TheVariants as util
 use Rattle.elastic_ast.specs.Tree.{Name, PlainDecl}
 use Rattle.spelling.specs.Grammar.{Grammar, Nothing, One, ◌⨟◌, Either, Where, Each, FirstThenEach, Separated, Sign, Reserved, Named, Num, Bracketed}
 use Rattle.p4_expr.specs.Parts.{SpellsNumber, SpellsBits, SpellsAmount, SpellsIndex, SpellsHeader, SpellsNoArguments}
-use Rattle.p4_parser.specs.Grammar.{SpellsMetaField, SpellsFirstTerm, SpellsLaterTerm, SpellsSign, SpellsComparisons}
+use Rattle.p4_parser.specs.Sums.{SpellsFirstTerm, SpellsLaterTerm, SpellsSign, SpellsComparisons}
 
 -- INCLUDE
 abbrev pub SpellsInclude : ℕ → Grammar
-SpellsInclude file = One (λ word. word.kind ≡ kind.Include file)
+SpellsInclude file = Where (file < 2 ^ 8) (One (λ word. word.kind ≡ kind.Include file))
 
 -- K ':' K
 abbrev pub SpellsStep : ℕ × ℕ → Grammar
@@ -39,6 +39,10 @@ SpellsConstant width value = Either (SpellsNumber None value) (SpellsNumber (Som
 -- a field of a header, which has no size: bits N ';'
 abbrev pub SpellsHeaderField : Field → Grammar
 SpellsHeaderField field = Where (field.size ≡ None) (SpellsBits field.width ⨟ Named field.name ⨟ Sign (codes ";"))
+
+-- a field of the metadata, perhaps with the symbol that is its size: bits ['[' N ']'] N ';'
+abbrev pub SpellsMetaField : ℕ → Field → Grammar
+SpellsMetaField depth field = SpellsBits field.width ⨟ SpellsIndex depth field.size ⨟ Named field.name ⨟ Sign (codes ";")
 
 -- a header of a packet, its type first: N N ';'
 abbrev pub SpellsMember : Name × Name → Grammar

@@ -1,7 +1,9 @@
 pub mod GoesOn
-pub mod Grammar
-pub mod Statements
-pub mod Tables
+pub mod Sums
 pub mod Flat
+pub mod Grammar
+pub mod Tables
+pub mod Statements
 pub mod Declarations
+pub mod ProgramOf
 pub mod Examples

@@ -4,8 +4,8 @@ use Rattle.std.specs.Prelude.{◌≡◌, ◌≢◌, ℕ, ◌<◌, ◌^◌, Bool,
 use Rattle.elastic_ast.specs.declared.declarations.Key.{Key}
 use Rattle.elastic_ast.specs.Tree.{Name, PlainExpr, PlainKeyset, PlainEntry, PlainTable}
 use Rattle.spelling.specs.Words.{Word}
-use Rattle.spelling.specs.Grammar.{Grammar, Empty, Nothing, ◌⨟◌, Either, Where, Each, Separated, Sign, Reserved, Named, Num, Bracketed}
-use Rattle.p4_expr.specs.Parts.{Commas, SpellsNumber, SpellsLval}
+use Rattle.spelling.specs.Grammar.{Grammar, Empty, Nothing, ◌⨟◌, Either, Where, Each, Separated, Commas, Sign, Reserved, Named, Num, Bracketed}
+use Rattle.p4_expr.specs.Parts.{SpellsNumber, SpellsLval}
 
 -- value := V | N, and no other expression is a value
 abbrev pub SpellsValue : PlainExpr → Grammar

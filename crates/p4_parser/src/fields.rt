@@ -6,7 +6,8 @@ ghost use Rattle.spelling.specs.Words.{Word};
 ghost use Rattle.spelling.specs.Grammar.{Each, Begins, IsSign};
 ghost use Rattle.spelling.specs.Reading.{ahead, Takes, MayTake, Ends, IsAnswer};
 ghost use Rattle.p4_parser.specs.GoesOn.{size_signs};
-ghost use Rattle.p4_parser.specs.Grammar.{SpellsBits, SpellsSize, SpellsMetaField};
+ghost use Rattle.p4_expr.specs.Parts.{SpellsBits, SpellsIndex};
+ghost use Rattle.p4_parser.specs.Flat.{SpellsMetaField};
 
 use elastic_ast::Field;
 use elx_bits::{Items, Name};
@@ -61,8 +62,8 @@ fn array_size(
     reader: &mut Reader<'_>,
     depth: u32,
 ) -> Result<Option<Name>, SyntaxError>
-    ensures taken { IfOk result (λ size. MayTake (SpellsSize depth size) (ahead reader.old) (ahead reader.new)) }
-    ensures only { (size : Option (List ℕ)) (rest : List Word) → MayTake (SpellsSize depth size) (ahead reader.old) rest → Ends size_signs rest → IsAnswer (λ read. read) size rest (ahead reader.new) result }
+    ensures taken { IfOk result (λ size. MayTake (SpellsIndex depth size) (ahead reader.old) (ahead reader.new)) }
+    ensures only { (size : Option (List ℕ)) (rest : List Word) → MayTake (SpellsIndex depth size) (ahead reader.old) rest → Ends size_signs rest → IsAnswer (λ read. read) size rest (ahead reader.new) result }
 {
     if !reader.is_at_sign(b"[") {
         return Ok(None);

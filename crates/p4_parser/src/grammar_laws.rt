@@ -1,34 +1,40 @@
-//! Laws of the grammar of whole programs and examples of what it spells, each the contract of an empty function.
+//! Laws of the grammar of whole programs, each the contract of an empty function.
 
-ghost use Rattle.std.specs.Prelude.{◌≡◌, ℕ, Bool, true, false, List, ◌∷◌, codes};
-ghost use Rattle.elastic_ast.specs.Tree.{PlainExpr, PlainStmt, PlainStmts, PlainProgram};
+ghost use Rattle.std.specs.Prelude.{◌≡◌, ℕ, ◌≤◌, Bool, true, false, List, ◌∷◌, codes};
+ghost use Rattle.elastic_ast.specs.Tree.{PlainExpr, PlainStmt, PlainStmts, PlainTable, PlainProgram};
 ghost use Rattle.elastic_ast.specs.declared.declarations.Key.{Key};
-ghost use Rattle.elastic_ast.specs.Tree.{PlainTable};
 ghost use Rattle.spelling.specs.Words.{Word};
+ghost use Rattle.spelling.specs.Grammar.{Begins, IsSign};
+ghost use Rattle.spelling.specs.Brackets.{most_open};
 ghost use Rattle.p4_parser.specs.Tables.{Property, SpellsTable};
-ghost use Rattle.p4_expr.specs.PlacedWords.{PlacedWord, bare};
 ghost use Rattle.p4_parser.specs.Grammar.{Spells};
-ghost use Rattle.p4_parser.specs.Statements.{SpellsStmt};
+ghost use Rattle.p4_parser.specs.Statements.{SpellsStmt, SpellsStmts, SpellsBranch};
 ghost use Rattle.p4_parser.specs.Declarations.{SpellsProgram};
-ghost use Rattle.p4_parser.specs.Examples.{inner_else, only, bare_call};
 
-/// What the grammar of symbols, comparisons, the utility and the metadata spells, the grammar of whole programs spells,
-/// wherever the words stand.
+/// What the grammar of symbols, comparisons, the utility and the metadata spells, the grammar of whole programs spells.
 pub fn law_of_first_declarations()
-    ensures { (depth : ℕ) (decls : PlainProgram) (ws : List PlacedWord) → Spells depth decls (bare ws) → SpellsProgram depth decls ws }
+    ensures { (depth : ℕ) (decls : PlainProgram) (ws : List Word) → Spells depth decls ws → SpellsProgram depth decls ws }
 {}
 
-/// An `if` without `else` is always open, so it is no first branch of an `if` with `else`, unless brackets are around it.
+/// An `if` without `else` is always open, and so, as the first branch of an `if` with `else`, it has brackets around it.
 pub fn law_of_open_ends()
-    ensures { (depth : ℕ) (open_end : Bool) (condition : PlainExpr) (then_stmts : PlainStmts) (ws : List PlacedWord) → SpellsStmt depth open_end (PlainStmt.If condition then_stmts) ws → open_end ≡ true }
-{}
-
-/// An `else` behind two `if` belongs to the inner one. Each branch is one statement without brackets, and counts as one.
-pub fn else_goes_to_the_inner_if()
-    ensures { SpellsStmt 3 true (PlainStmt.If (PlainExpr.Named (codes "a")) (only (PlainStmt.IfElse (PlainExpr.Named (codes "b")) (only (bare_call (codes "x"))) (only (bare_call (codes "y")))))) inner_else }
+    ensures branch { (depth : ℕ) (condition : PlainExpr) (then_stmts : PlainStmts) (ws : List Word) → SpellsBranch depth false (PlainStmts.cons (PlainStmt.If condition then_stmts) PlainStmts.nil) ws → Begins (IsSign (codes "{")) ws }
+    ensures alone { (depth : ℕ) (open_end : Bool) (condition : PlainExpr) (then_stmts : PlainStmts) (ws : List Word) → SpellsStmt depth open_end (PlainStmt.If condition then_stmts) ws → open_end ≡ true }
 {}
 
 /// No table is spelled with a key property behind a key property, even where both are empty.
 pub fn no_table_has_two_key_properties()
     ensures { (depth : ℕ) (table : PlainTable) (ws : List Word) (spelled : SpellsTable depth table ws) (one other : List Key) (rest : List Property) → spelled.properties ≡ Property.Keys one ∷ Property.Keys other ∷ rest → ⊥ }
+{}
+
+/// What is spelled within a depth is spelled within each greater one.
+pub fn law_of_greater_depths()
+    ensures statements { (depth more : ℕ) (stmts : PlainStmts) (ws : List Word) → depth ≤ more → SpellsStmts depth stmts ws → SpellsStmts more stmts ws }
+    ensures programs { (depth more : ℕ) (program : PlainProgram) (ws : List Word) → depth ≤ more → SpellsProgram depth program ws → SpellsProgram more program ws }
+{}
+
+/// No more brackets are open at a word of statements or of a program than the depth says, under which it is spelled.
+pub fn law_of_open_brackets()
+    ensures statements { (depth : ℕ) (stmts : PlainStmts) (ws : List Word) → SpellsStmts depth stmts ws → most_open ws ≤ depth }
+    ensures programs { (depth : ℕ) (program : PlainProgram) (ws : List Word) → SpellsProgram depth program ws → most_open ws ≤ depth }
 {}

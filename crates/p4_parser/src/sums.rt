@@ -8,7 +8,8 @@ ghost use Rattle.elastic_ast.specs.declared.declarations.UtilTerm.{UtilTerm};
 ghost use Rattle.spelling.specs.Words.{Word};
 ghost use Rattle.spelling.specs.Reading.{ahead, Takes, MayTake, Ends, IsAnswer};
 ghost use Rattle.p4_parser.specs.GoesOn.{product_signs, sum_signs, comparison_signs};
-ghost use Rattle.p4_parser.specs.Grammar.{SpellsProduct, SpellsSign, SpellsSum, SpellsRelation, SpellsComparison, SpellsComparisons, SpellsUtility};
+ghost use Rattle.p4_parser.specs.Sums.{SpellsProduct, SpellsSign, SpellsSum, SpellsRelation, SpellsComparison, SpellsComparisons};
+ghost use Rattle.p4_parser.specs.Grammar.{SpellsUtility};
 
 use elastic_ast::{Comp, LinTerm, Rel, UtilTerm};
 use elx_bits::Items;

@@ -1,9 +1,9 @@
 -- An algebra of grammars, this project's own: a grammar says which lists of words spell one thing. A word's kind is part
 -- of what it spells, so no word is both a sign and a name, whatever its bytes are.
-use Rattle.std.specs.Prelude.{◌≡◌, ℕ, zero, suc, Bool, true, false, IsTrue, List, [], ◌∷◌, ◌++◌, None, ◌⊎◌}
+use Rattle.std.specs.Prelude.{◌≡◌, ℕ, zero, suc, Bool, true, false, IsTrue, List, [], ◌∷◌, ◌++◌, None, codes, ◌⊎◌}
 use Rattle.p4_lexer.specs.declared.token.Kind.{Kind}
 use Rattle.p4_lexer.specs.declared.token.Kind.TheVariants as kind
-use Rattle.spelling.specs.Words.{Word}
+use Rattle.spelling.specs.Words.{Word, Touch}
 
 abbrev pub Grammar : Type 1
 Grammar = List Word → Type 0
@@ -42,6 +42,15 @@ pub record One (IsThis : Word → Type 0) (ws : List Word) : Type 0 where
   pub word : Word
   pub alone : ws ≡ word ∷ []
   pub is_this : IsThis word
+
+-- two words, each with a property, that touch
+pub record TwoTouching (IsFirst : Word → Type 0) (IsSecond : Word → Type 0) (ws : List Word) : Type 0 where
+  pub one : Word
+  pub other : Word
+  pub both : ws ≡ one ∷ other ∷ []
+  pub is_first : IsFirst one
+  pub is_second : IsSecond other
+  pub touch : Touch one other
 
 -- first the one, then the other
 pub record Sequence (First : Grammar) (Second : Grammar) (ws : List Word) : Type 0 where
@@ -103,6 +112,11 @@ Named name = One (IsNamed name)
 -- one word that is this number without a width
 abbrev pub Num : ℕ → Grammar
 Num value = One (IsNum value)
+
+-- the things of a list with a comma between each two, perhaps none
+abbrev pub Commas : {A : Type 0} → (A → Grammar) → List A → Grammar
+Commas Of [] = Empty
+Commas Of (x ∷ xs) = Separated (Sign (codes ",")) Of (x ∷ xs)
 
 -- the first word has a property
 abbrev pub Begins : (Word → Type 0) → Grammar

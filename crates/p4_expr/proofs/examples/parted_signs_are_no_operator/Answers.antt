@@ -1,5 +1,5 @@
-use Rattle.p4_expr.proofs.PartedSigns.{not_shift}
+use Rattle.p4_expr.proofs.PartedSigns.{not_operator}
 use Rattle.p4_expr.proofs.examples.parted_signs_are_no_operator.Goals as goal
 
 pub returns : goal.returns
-returns c = not_shift
+returns c = not_operator

@@ -4,7 +4,7 @@ use Rattle.spelling.specs.Words.{Word}
 use Rattle.spelling.specs.Reading.{ahead, MayTake, Takes, Ends}
 use Rattle.spelling.proofs.Whole.{Left}
 use Rattle.p4_parser.specs.GoesOn.{comparison_signs}
-use Rattle.p4_parser.specs.Grammar.{SpellsComparisons}
+use Rattle.p4_parser.specs.Sums.{SpellsComparisons}
 use Rattle.p4_parser.proofs.SumSpelling.{LaterComp}
 use Rattle.p4_parser.proofs.sums.comparisons.Given as goal
 

@@ -4,7 +4,7 @@ use Rattle.spelling.specs.Words.{Word}
 use Rattle.spelling.specs.Reading.{ahead, MayTake, Takes, Ends}
 use Rattle.spelling.proofs.Whole.{Left}
 use Rattle.p4_parser.specs.GoesOn.{sum_signs}
-use Rattle.p4_parser.specs.Grammar.{SpellsLaterTerm, SpellsSum}
+use Rattle.p4_parser.specs.Sums.{SpellsLaterTerm, SpellsSum}
 use Rattle.p4_parser.proofs.sums.sum.Given as goal
 
 abbrev pub invariant-terms : goal.invariant-terms

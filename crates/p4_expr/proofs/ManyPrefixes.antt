@@ -1,0 +1,23 @@
+-- A name behind so many prefixes has so many operators.
+use Rattle.std.proofs.Common.{◌≡◌, ℕ, zero, suc, ◌≤◌, List, codes, refl, arith}
+use Rattle.elastic_ast.specs.Operators.{Turn}
+use Rattle.spelling.specs.Words.{Word}
+use Rattle.p4_expr.specs.Operators.{operators_in}
+use Rattle.p4_expr.specs.Expressions.{SpellsPrefixed, SpellsLevel, SpellsExpr}
+use Rattle.p4_expr.specs.Examples.{turned, turned_words}
+use Rattle.p4_expr.proofs.Building.{sign_last, prefixed_name, is_turn, lift}
+
+turned_prefixed : (n : ℕ) → SpellsPrefixed 0 (turned n) (turned_words n)
+turned_prefixed zero = prefixed_name 0 (codes "a") _ refl refl
+turned_prefixed (suc n) = SpellsPrefixed.unary Turn _ (turned_words n) is_turn (sign_last (codes "~") 19 _ refl refl) (turned_prefixed n) refl
+
+turned_operators : (n : ℕ) → operators_in (turned n) ≡ n
+unfolding operators_in
+turned_operators zero = refl
+turned_operators (suc n) = let e = turned_operators n in omega (arith, e)
+
+pub few_prefixes : (n : ℕ) → n ≤ 64 → SpellsExpr 0 (turned n) (turned_words n)
+few_prefixes n few = (lift 10 (SpellsLevel.prefixed (turned_prefixed n)), let e = turned_operators n in omega (arith, e, few))
+
+pub no_more_prefixes : (n depth : ℕ) (ws : List Word) → SpellsExpr depth (turned n) ws → n ≤ 64
+no_more_prefixes n depth ws h = let e = turned_operators n in let few = h.1 in omega (arith, e, few)

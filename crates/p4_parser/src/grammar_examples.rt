@@ -1,0 +1,55 @@
+//! Examples of what the grammar of whole programs spells and of what it doesn't, each the contract of an empty function.
+
+ghost use Rattle.std.specs.Prelude.{ℕ, ◌≤◌, Bool, true, List, [], ◌∷◌, Some, None, codes};
+ghost use Rattle.elastic_ast.specs.declared.statements.Amount.TheVariants as Amount;
+ghost use Rattle.elastic_ast.specs.Tree.{PlainExpr, PlainStmt, PlainStmts, PlainTable, PlainDecl, PlainProgram};
+ghost use Rattle.spelling.specs.Words.{Word};
+ghost use Rattle.p4_parser.specs.Tables.{SpellsTable};
+ghost use Rattle.p4_parser.specs.Statements.{SpellsStmt, SpellsStmts};
+ghost use Rattle.p4_parser.specs.Declarations.{SpellsProgram};
+ghost use Rattle.p4_parser.specs.Examples.{inner_else, branch_of_a_stage, touching_closings, wider_number, too_wide, two_empty_keys, only, bare_call, conditions, bracketed_conditions, bare_conditions};
+
+/// An `else` behind two `if` belongs to the inner one. Each branch is one statement without brackets, and counts as one.
+pub fn else_goes_to_the_inner_if()
+    ensures { SpellsStmt 3 true (PlainStmt.If (PlainExpr.Named (codes "a")) (only (PlainStmt.IfElse (PlainExpr.Named (codes "b")) (only (bare_call (codes "x"))) (only (bare_call (codes "y")))))) inner_else }
+{}
+
+/// A block of a stage is one statement of a branch, and the branch counts as one more bracket.
+pub fn block_of_a_stage_is_one_statement()
+    ensures { SpellsStmt 3 true (PlainStmt.If (PlainExpr.Named (codes "a")) (only (PlainStmt.Block (Some 0) (only (bare_call (codes "x")))))) branch_of_a_stage }
+{}
+
+/// Two signs `>` that touch may close two types.
+pub fn touching_signs_close_two_types()
+    ensures { SpellsProgram 1 (PlainDecl.Register (codes "r") 32 (Amount.Num 4) None ∷ []) touching_closings }
+{}
+
+/// A constant whose number has another width than the constant is no program.
+pub fn no_constant_has_a_number_of_another_width()
+    ensures { (depth : ℕ) (program : PlainProgram) → SpellsProgram depth program wider_number → ⊥ }
+{}
+
+/// A number that doesn't fit its place in the tree is no program: a width of 256.
+pub fn no_width_is_too_wide()
+    ensures { (depth : ℕ) (program : PlainProgram) → SpellsProgram depth program too_wide → ⊥ }
+{}
+
+/// A table with two properties of one kind isn't spelled, even where both are empty.
+pub fn no_table_has_two_empty_keys()
+    ensures { (depth : ℕ) (table : PlainTable) → SpellsTable depth table two_empty_keys → ⊥ }
+{}
+
+/// Where no bracket may be open, no condition is spelled.
+pub fn no_condition_without_depth()
+    ensures alone { (open_end : Bool) (condition : PlainExpr) (then_stmts : PlainStmts) (ws : List Word) → SpellsStmt 0 open_end (PlainStmt.If condition then_stmts) ws → ⊥ }
+    ensures with_else { (open_end : Bool) (condition : PlainExpr) (then_stmts else_stmts : PlainStmts) (ws : List Word) → SpellsStmt 0 open_end (PlainStmt.IfElse condition then_stmts else_stmts) ws → ⊥ }
+{}
+
+/// So many conditions, each within the one before, are spelled at a depth of their number, with brackets around each branch or
+/// without any. No words spell them at a smaller depth, and the words with brackets spell nothing at one.
+pub fn conditions_need_a_depth_of_their_number()
+    ensures bracketed { (n : ℕ) → SpellsStmts n (only (conditions n)) (bracketed_conditions n) }
+    ensures bare { (n : ℕ) → SpellsStmts n (only (conditions n)) (bare_conditions n) }
+    ensures tree { (n depth : ℕ) (ws : List Word) → SpellsStmts depth (only (conditions n)) ws → n ≤ depth }
+    ensures words { (n depth : ℕ) (stmts : PlainStmts) → SpellsStmts depth stmts (bracketed_conditions n) → n ≤ depth }
+{}
