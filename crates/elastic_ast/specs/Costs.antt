@@ -12,32 +12,20 @@ use Rattle.elastic_ast.specs.declared.flat.Cells.TheVariants as cells
 use Rattle.elastic_ast.specs.declared.declarations.Key.{Key}
 use Rattle.elastic_ast.specs.Tree.{Name, PlainDecl, PlainExpr, PlainStmt, PlainStmts, PlainAction, PlainTable}
 use Rattle.elastic_ast.specs.Scope.{same, found}
+use Rattle.elastic_ast.specs.Operators.{operators_in}
 use Rattle.elastic_ast.specs.Sums.{symbols_of}
 use Rattle.elastic_ast.specs.Types.{lval_type, width_of_type}
 use Rattle.elastic_ast.specs.LookUps.{action_of, table_of}
 use Rattle.elastic_ast.specs.PlainUnits.{PlainWork, Plain, Call, Apply, Pred}
 
--- how many operators an expression has: unary and binary signs, casts, slices, `hash` and `isValid`
-abbrev pub expr_ops : PlainExpr → ℕ
-expr_ops (PlainExpr.Num width number) = 0
-expr_ops (PlainExpr.Truth truth) = 0
-expr_ops (PlainExpr.Named name) = 0
-expr_ops (PlainExpr.At place) = 0
-expr_ops (PlainExpr.IsValid header) = 1
-expr_ops (PlainExpr.Unary op of) = 1 + expr_ops of
-expr_ops (PlainExpr.Binary op left right) = 1 + (expr_ops left + expr_ops right)
-expr_ops (PlainExpr.Cast width of) = 1 + expr_ops of
-expr_ops (PlainExpr.Slice of high low) = 1 + expr_ops of
-expr_ops (PlainExpr.Hash k of modulus) = 1 + expr_ops of
-
 abbrev pub exprs_ops : List PlainExpr → ℕ
 exprs_ops [] = 0
-exprs_ops (first ∷ rest) = expr_ops first + exprs_ops rest
+exprs_ops (first ∷ rest) = operators_in first + exprs_ops rest
 
 abbrev pub plain_ops : PlainStmt → ℕ
-plain_ops (PlainStmt.Assign to number) = expr_ops number
-plain_ops (PlainStmt.Read to register cell) = expr_ops cell
-plain_ops (PlainStmt.Write register cell number) = expr_ops cell + expr_ops number
+plain_ops (PlainStmt.Assign to number) = operators_in number
+plain_ops (PlainStmt.Read to register cell) = operators_in cell
+plain_ops (PlainStmt.Write register cell number) = operators_in cell + operators_in number
 plain_ops _ = 0
 
 abbrev pub body_ops : PlainStmts → ℕ
@@ -68,7 +56,7 @@ abbrev pub work_ops : List PlainDecl → PlainWork → ℕ
 work_ops decls (Plain statement) = leaf_ops decls statement
 work_ops decls (Call statement) = leaf_ops decls statement
 work_ops decls (Apply table) = leaf_ops decls (PlainStmt.Apply table)
-work_ops decls (Pred number condition) = 1 + expr_ops condition
+work_ops decls (Pred number condition) = 1 + operators_in condition
 
 -- the one condition that all tests make together: each literal is a comparison, and `&&` stands between each two tests
 abbrev pub guard_ops : List Lit → List PlainExpr → ℕ

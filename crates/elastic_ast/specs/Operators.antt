@@ -1,6 +1,8 @@
--- The operators by their codes, and the sort of each: which operands it takes and what it gives (the operators are those
--- of P4-16 language specification 1.2.3, section 8; the codes are this project's own).
-use Rattle.std.specs.Prelude.{ℕ, List, [], ◌∷◌, unwrap_or, slice_get}
+-- The operators by their codes, the sort of each, which says what operands it takes and what it gives, and how many
+-- operators an expression has (the operators are those of P4-16 language specification 1.2.3, section 8; the codes are this
+-- project's own).
+use Rattle.std.specs.Prelude.{ℕ, ◌+◌, List, [], ◌∷◌, unwrap_or, slice_get}
+use Rattle.elastic_ast.specs.Tree.{PlainExpr}
 
 pub data Operator : Type 0 where
   Or : Operator
@@ -62,3 +64,16 @@ sort_of Minus = Arithmetic
 sort_of Times = Arithmetic
 sort_of Turn = Arithmetic
 sort_of NoOperator = Arithmetic
+
+-- how many operators an expression has: unary and binary signs, casts, slices, `hash` and `isValid`
+unfoldable pub operators_in : PlainExpr → ℕ
+operators_in (PlainExpr.Num width value) = 0
+operators_in (PlainExpr.Truth truth) = 0
+operators_in (PlainExpr.Named name) = 0
+operators_in (PlainExpr.At lval) = 0
+operators_in (PlainExpr.IsValid header) = 1
+operators_in (PlainExpr.Unary op of) = operators_in of + 1
+operators_in (PlainExpr.Binary op left right) = operators_in left + operators_in right + 1
+operators_in (PlainExpr.Cast width of) = operators_in of + 1
+operators_in (PlainExpr.Slice of high low) = operators_in of + 1
+operators_in (PlainExpr.Hash number of modulus) = operators_in of + 1

@@ -7,7 +7,7 @@ ghost use Rattle.elastic_ast.specs.declared.flat.Location.TheVariants as locatio
 ghost use Rattle.elastic_ast.specs.Tree.{PlainStmt};
 ghost use Rattle.elastic_ast.specs.PlainUnits.{PlainWork};
 ghost use Rattle.elastic_ast.specs.UnitsOf.{units_of, fixed_bits, symbol_bits};
-ghost use Rattle.elastic_ast.specs.Costs.{expr_ops};
+ghost use Rattle.elastic_ast.specs.Operators.{operators_in};
 ghost use Rattle.elastic_ast.specs.Instances.{instances_of};
 ghost use Rattle.elastic_ast.specs.Order.{Relation};
 ghost use Rattle.elastic_ast.specs.Footprints.{TablesFit};
@@ -20,6 +20,7 @@ ghost use Rattle.elastic_ast.specs.WorkedUnits.{a, b, e, get, small, when, set, 
 
 /// A condition over exactly one unit is a test of that unit, also where the unit is a condition. Any other condition is kept in a
 /// predicate. The predicates are numbered in the order of the text, and a literal stands before those of the branches inside.
+#[tactic(auto, unfolding(crate::specs::Operators::operators_in))]
 pub fn units_of_conditions()
     ensures branch_lits { lits_of branch ≡ [] ∷ (on 0 ∷ []) ∷ (on 0 ∷ []) ∷ [] }
     ensures branch_conds { conds_of branch ≡ [] ∷ [] ∷ [] ∷ [] }
@@ -74,6 +75,7 @@ pub fn units_of_loops_and_blocks()
 
 /// A count-min sketch: an assignment, a call that counts in the loop's own register, and a guarded call. Each loop runs all its units
 /// at one index after the other; at size 0 it has no instance.
+#[tactic(auto, unfolding(crate::specs::Operators::operators_in))]
 pub fn units_of_a_sketch()
     ensures works { works_of count_min_sketch ≡ set (of_meta (codes "low")) 0xFFFFFFFF ∷ PlainWork.Call (call_in_row (codes "count")) ∷ PlainWork.Call (call_in_row (codes "least")) ∷ [] }
     ensures lits { lits_of count_min_sketch ≡ [] ∷ [] ∷ [] ∷ [] }
@@ -92,6 +94,7 @@ pub fn units_of_a_sketch()
 {}
 
 /// Units that read and write registers: each names one, and the fields of a header count beside its validity.
+#[tactic(auto, unfolding(crate::specs::Operators::operators_in))]
 pub fn units_with_registers()
     ensures two_reads_cells { cells_of two_register_arrays ≡ (Some (cells.Symbol 0), 32) ∷ (Some (cells.Symbol 1), 32) ∷ [] }
     ensures two_reads_costs { costs_of two_register_arrays ≡ 1 ∷ 1 ∷ [] }
@@ -110,6 +113,7 @@ pub fn units_with_registers()
 
 /// A ternary key takes twice as many bits, and `size` stands before the number of entries. A table has what all its actions read and
 /// write, and the operators of the action that has most. A call counts its arguments, and validity is a location of its own.
+#[tactic(auto, unfolding(crate::specs::Operators::operators_in))]
 pub fn units_of_tables_and_calls()
     ensures table_ternary { bits_of (with_table true None) ≡ (0, 32) ∷ [] }
     ensures table_ternary_with_size { bits_of (with_table true (Some 16)) ≡ (0, 256) ∷ [] }
@@ -127,7 +131,7 @@ pub fn units_of_tables_and_calls()
     ensures call_reads { reads_of call_with_argument ≡ (at_a ∷ []) ∷ [] }
     ensures call_writes { writes_of call_with_argument ≡ (at_a ∷ []) ∷ [] }
     ensures call_ops { ops_of call_with_argument ≡ 1 ∷ [] }
-    ensures call_operators { expr_ops four_operators ≡ 4 }
+    ensures call_operators { operators_in four_operators ≡ 4 }
     ensures validity_reads { reads_of validity ≡ [] ∷ (location.Valid (codes "h") ∷ []) ∷ [] }
     ensures validity_writes { writes_of validity ≡ (location.Valid (codes "h") ∷ []) ∷ (at_a ∷ []) ∷ [] }
     ensures validity_ops { ops_of validity ≡ 0 ∷ 1 ∷ [] }

@@ -1,15 +1,13 @@
 -- The trees of the examples.
-use Rattle.std.proofs.Common.{[], ◌∷◌, codes, refl, None, lit<, lit≤}
+use Rattle.std.proofs.Common.{[], ◌∷◌, codes, refl, None, lit<}
 use Rattle.elastic_ast.specs.Operators.{ShiftDown, Plus, Minus, Times, Turn, Negate}
 use Rattle.elastic_ast.specs.Tree.{PlainExpr}
-use Rattle.p4_expr.specs.Operators.{operators_in}
 use Rattle.p4_expr.specs.Expressions.{SpellsLevel, SpellsPrefixed, SpellsPrimary, SpellsExpr}
 use Rattle.p4_expr.specs.Examples.{product_in_sum, two_differences, name_in_brackets, shift, four_bits, byte_of_name, two_prefixes}
 use Rattle.p4_expr.proofs.Building.{sign_first, sign_last, reserved_first, word_first, word_last, is_plus, is_minus, is_times, is_shift_down, is_turn, is_negate, touching, primary_name, prefixed_name, one_name, one_number, from_none, from_two, from_three}
 
 pub sum_tree : SpellsExpr 0 (PlainExpr.Binary 13 (PlainExpr.Named (codes "a")) (PlainExpr.Binary 16 (PlainExpr.Named (codes "b")) (PlainExpr.Named (codes "c")))) product_in_sum
-unfolding operators_in
-sum_tree = (
+sum_tree =
   from_two 0 _ product_in_sum
       (SpellsLevel.binary Plus _ _ _ is_plus
       (SpellsLevel.stronger (SpellsLevel.stronger (one_name 0 (codes "a") _ refl refl)))
@@ -19,13 +17,10 @@ sum_tree = (
       (sign_last (codes "*") 15 _ refl refl)
       (one_name 0 (codes "c") _ refl refl)
       refl)
-      refl),
-  lit≤ tt,
-)
+      refl)
 
 pub differences_tree : SpellsExpr 0 (PlainExpr.Binary 14 (PlainExpr.Binary 14 (PlainExpr.Named (codes "a")) (PlainExpr.Named (codes "b"))) (PlainExpr.Named (codes "c"))) two_differences
-unfolding operators_in
-differences_tree = (
+differences_tree =
   from_two 0 _ two_differences
       (SpellsLevel.binary Minus _ _ _ is_minus
       (SpellsLevel.binary Minus _ _ _ is_minus
@@ -35,33 +30,24 @@ differences_tree = (
       refl)
       (sign_last (codes "-") 14 _ refl refl)
       (SpellsLevel.stronger (one_name 0 (codes "c") _ refl refl))
-      refl),
-  lit≤ tt,
-)
+      refl)
 
 pub brackets_tree : SpellsExpr 1 (PlainExpr.Named (codes "a")) name_in_brackets
-unfolding operators_in
-brackets_tree = (
+brackets_tree =
   from_none 1 _ name_in_brackets (SpellsLevel.prefixed (SpellsPrefixed.primary
-      (SpellsPrimary.bracketed _ _ _ (sign_last (codes "(") 2 _ refl refl) (from_none 0 _ _ (one_name 0 (codes "a") _ refl refl)) (sign_last (codes ")") 3 _ refl refl) refl))),
-  lit≤ tt,
-)
+      (SpellsPrimary.bracketed _ _ _ (sign_last (codes "(") 2 _ refl refl) (from_none 0 _ _ (one_name 0 (codes "a") _ refl refl)) (sign_last (codes ")") 3 _ refl refl) refl)))
 
 pub shift_tree : SpellsExpr 0 (PlainExpr.Binary 12 (PlainExpr.Named (codes "x")) (PlainExpr.Num None 2)) shift
-unfolding operators_in
-shift_tree = (
+shift_tree =
   from_three 0 _ shift
       (SpellsLevel.binary ShiftDown _ _ _ is_shift_down
       (SpellsLevel.stronger (SpellsLevel.stronger (SpellsLevel.stronger (one_name 0 (codes "x") _ refl refl))))
       (touching _ _ refl refl refl refl refl)
       (SpellsLevel.stronger (SpellsLevel.stronger (one_number 0 2 _ (lit< tt) refl)))
-      refl),
-  lit≤ tt,
-)
+      refl)
 
 pub slice_tree : SpellsExpr 1 (PlainExpr.Slice (PlainExpr.Named (codes "h")) 7 4) four_bits
-unfolding operators_in
-slice_tree = (
+slice_tree =
   from_none 1 _ four_bits (SpellsLevel.prefixed (SpellsPrefixed.primary
       (SpellsPrimary.slice _ _ (primary_name 1 (codes "h") _ refl refl) (
         (lit< tt, lit< tt),
@@ -74,13 +60,10 @@ slice_tree = (
               second = sign_last (codes "]") 5 _ refl refl;
             },
       )
-      refl))),
-  lit≤ tt,
-)
+      refl)))
 
 pub cast_tree : SpellsExpr 1 (PlainExpr.Cast 8 (PlainExpr.Named (codes "x"))) byte_of_name
-unfolding operators_in
-cast_tree = (
+cast_tree =
   from_none 1 _ byte_of_name (SpellsLevel.prefixed
       (SpellsPrefixed.cast (_ ∷ _ ∷ _ ∷ _ ∷ _ ∷ _ ∷ []) _
       (sign_first (codes "(") 2 _ _ refl refl
@@ -92,16 +75,11 @@ cast_tree = (
         second = sign_last (codes ")") 3 _ refl refl;
       })
       (prefixed_name 1 (codes "x") _ refl refl)
-      refl)),
-  lit≤ tt,
-)
+      refl))
 
 pub prefixes_tree : SpellsExpr 0 (PlainExpr.Unary 17 (PlainExpr.Unary 18 (PlainExpr.Named (codes "x")))) two_prefixes
-unfolding operators_in
-prefixes_tree = (
+prefixes_tree =
   from_none 0 _ two_prefixes (SpellsLevel.prefixed
       (SpellsPrefixed.unary Turn _ _ is_turn (sign_last (codes "~") 19 _ refl refl)
       (SpellsPrefixed.unary Negate _ _ is_negate (sign_last (codes "!") 20 _ refl refl) (prefixed_name 0 (codes "x") _ refl refl) refl)
-      refl)),
-  lit≤ tt,
-)
+      refl))

@@ -66,4 +66,4 @@ mutual
       SpellsPrimary.slice front back (primary_deeper more le first) (bit_range_deeper depth more high low le back second) e
 
 pub expr_deeper : (depth more : ℕ) (e : PlainExpr) → depth ≤ more → Under (SpellsExpr depth e) (SpellsExpr more e)
-expr_deeper depth more e le ws h = (level_deeper more le h.0, h.1)
+expr_deeper depth more e le ws h = level_deeper more le h

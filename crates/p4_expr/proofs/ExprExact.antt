@@ -79,4 +79,4 @@ mutual
       SpellsPrimary.slice front back (primary_exact more n first (first_of_two n (n + more) front back parts)) (bit_range_fits depth more high low back n second (second_after n (n + more) back (primary_within first) parts)) e
 
 pub expr_exact : (depth more : ℕ) (e : PlainExpr) (ws : List Word) → SpellsExpr depth e ws → most_open ws ≤ more → SpellsExpr more e ws
-expr_exact depth more e ws h le = (level_exact more 0 h.0 (omega (arith, le)), h.1)
+expr_exact depth more e ws h le = level_exact more 0 h (omega (arith, le))

@@ -36,4 +36,4 @@ mutual
       subst (Within depth) (sym e) (both_within (primary_within first) (bit_range_stays depth high low back second))
 
 pub expr_within : {depth : ℕ} {e : PlainExpr} → Stays depth (SpellsExpr depth e)
-expr_within ws h = level_within h.0
+expr_within ws h = level_within h

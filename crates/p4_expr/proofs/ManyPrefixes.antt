@@ -3,7 +3,7 @@ use Rattle.std.proofs.Common.{◌≡◌, ℕ, zero, suc, ◌≤◌, List, codes,
 use Rattle.elastic_ast.specs.Operators.{Turn}
 use Rattle.spelling.specs.Words.{Word}
 use Rattle.p4_expr.specs.Operators.{operators_in}
-use Rattle.p4_expr.specs.Expressions.{SpellsPrefixed, SpellsLevel, SpellsExpr}
+use Rattle.p4_expr.specs.Expressions.{SpellsPrefixed, SpellsLevel, SpellsExpr, HasFewOperators}
 use Rattle.p4_expr.specs.Examples.{turned, turned_words}
 use Rattle.p4_expr.proofs.Building.{sign_last, prefixed_name, is_turn, lift}
 
@@ -16,8 +16,11 @@ unfolding operators_in
 turned_operators zero = refl
 turned_operators (suc n) = let e = turned_operators n in omega (arith, e)
 
-pub few_prefixes : (n : ℕ) → n ≤ 64 → SpellsExpr 0 (turned n) (turned_words n)
-few_prefixes n few = (lift 10 (SpellsLevel.prefixed (turned_prefixed n)), let e = turned_operators n in omega (arith, e, few))
+pub prefixes_spelled : (n : ℕ) → SpellsExpr 0 (turned n) (turned_words n)
+prefixes_spelled n = lift 10 (SpellsLevel.prefixed (turned_prefixed n))
 
-pub no_more_prefixes : (n depth : ℕ) (ws : List Word) → SpellsExpr depth (turned n) ws → n ≤ 64
-no_more_prefixes n depth ws h = let e = turned_operators n in let few = h.1 in omega (arith, e, few)
+pub few_prefixes : (n : ℕ) → n ≤ 64 → HasFewOperators (turned n)
+few_prefixes n few = let e = turned_operators n in omega (arith, e, few)
+
+pub no_more_prefixes : (n : ℕ) → HasFewOperators (turned n) → n ≤ 64
+no_more_prefixes n few = let e = turned_operators n in omega (arith, e, few)

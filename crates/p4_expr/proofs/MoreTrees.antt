@@ -1,16 +1,14 @@
 -- The trees of more examples: shifts and sums, equations, prefixes and slices, casts of sums, hashes and validity bits.
-use Rattle.std.proofs.Common.{[], ◌∷◌, codes, refl, lit<, lit≤}
+use Rattle.std.proofs.Common.{[], ◌∷◌, codes, refl, lit<}
 use Rattle.elastic_ast.specs.Operators.{Equal, BitAnd, ShiftUp, Plus, Turn}
 use Rattle.elastic_ast.specs.declared.statements.Amount.TheVariants as amount
 use Rattle.elastic_ast.specs.Tree.{PlainExpr}
-use Rattle.p4_expr.specs.Operators.{operators_in}
 use Rattle.p4_expr.specs.Expressions.{SpellsLevel, SpellsPrefixed, SpellsPrimary, SpellsExpr}
 use Rattle.p4_expr.specs.Examples.{shift_of_sum, and_in_equation, turned_slice, byte_of_sum, hash_of_name, validity}
 use Rattle.p4_expr.proofs.Building.{sign_first, sign_last, reserved_first, name_first, name_last, word_first, word_last, is_equal, is_bit_and, is_shift_up, is_plus, is_turn, primary_name, one_name, from_none, lift}
 
 pub shift_of_sum_tree : SpellsExpr 0 (PlainExpr.Binary 11 (PlainExpr.Named (codes "a")) (PlainExpr.Binary 13 (PlainExpr.Named (codes "b")) (PlainExpr.Named (codes "c")))) shift_of_sum
-unfolding operators_in
-shift_of_sum_tree = (
+shift_of_sum_tree =
   lift 7
       (SpellsLevel.binary ShiftUp _ _ _ is_shift_up
       (lift 3 (one_name 0 (codes "a") _ refl refl))
@@ -20,13 +18,10 @@ shift_of_sum_tree = (
       (sign_last (codes "+") 13 _ refl refl)
       (lift 1 (one_name 0 (codes "c") _ refl refl))
       refl)
-      refl),
-  lit≤ tt,
-)
+      refl)
 
 pub and_in_equation_tree : SpellsExpr 0 (PlainExpr.Binary 2 (PlainExpr.Named (codes "a")) (PlainExpr.Binary 10 (PlainExpr.Named (codes "b")) (PlainExpr.Named (codes "c")))) and_in_equation
-unfolding operators_in
-and_in_equation_tree = (
+and_in_equation_tree =
   lift 2
       (SpellsLevel.binary Equal _ _ _ is_equal
       (lift 8 (one_name 0 (codes "a") _ refl refl))
@@ -37,13 +32,10 @@ and_in_equation_tree = (
       (sign_last (codes "&") 16 _ refl refl)
       (lift 3 (one_name 0 (codes "c") _ refl refl))
       refl))
-      refl),
-  lit≤ tt,
-)
+      refl)
 
 pub turned_slice_tree : SpellsExpr 1 (PlainExpr.Unary 17 (PlainExpr.Slice (PlainExpr.Named (codes "x")) 3 0)) turned_slice
-unfolding operators_in
-turned_slice_tree = (
+turned_slice_tree =
   lift 10 (SpellsLevel.prefixed
       (SpellsPrefixed.unary Turn _ _ is_turn (sign_last (codes "~") 19 _ refl refl)
       (SpellsPrefixed.primary
@@ -59,13 +51,10 @@ turned_slice_tree = (
             },
       )
       refl))
-      refl)),
-  lit≤ tt,
-)
+      refl))
 
 pub byte_of_sum_tree : SpellsExpr 1 (PlainExpr.Cast 8 (PlainExpr.Binary 13 (PlainExpr.Named (codes "a")) (PlainExpr.Named (codes "b")))) byte_of_sum
-unfolding operators_in
-byte_of_sum_tree = (
+byte_of_sum_tree =
   lift 10 (SpellsLevel.prefixed
       (SpellsPrefixed.cast (_ ∷ _ ∷ _ ∷ _ ∷ _ ∷ _ ∷ []) _
       (sign_first (codes "(") 2 _ _ refl refl
@@ -86,13 +75,10 @@ byte_of_sum_tree = (
       refl))
       (sign_last (codes ")") 3 _ refl refl)
       refl))
-      refl)),
-  lit≤ tt,
-)
+      refl))
 
 pub hash_of_name_tree : SpellsExpr 1 (PlainExpr.Hash (amount.Named (codes "i")) (PlainExpr.Named (codes "x")) (amount.Num 7)) hash_of_name
-unfolding operators_in
-hash_of_name_tree = (
+hash_of_name_tree =
   from_none 1 _ hash_of_name (SpellsLevel.prefixed (SpellsPrefixed.primary
       (SpellsPrimary.hash _ _ _ _ _ _
       (name_last (codes "hash") _ refl refl)
@@ -101,13 +87,10 @@ hash_of_name_tree = (
       (lift 10 (one_name 0 (codes "x") _ refl refl))
       record { front = _ ∷ []; back = _ ∷ []; joined = refl; first = sign_last (codes ",") 10 _ refl refl; second = (lit< tt, word_last _ refl) }
       (sign_last (codes ")") 3 _ refl refl)
-      refl))),
-  lit≤ tt,
-)
+      refl)))
 
 pub validity_tree : SpellsExpr 1 (PlainExpr.IsValid (codes "h")) validity
-unfolding operators_in
-validity_tree = (
+validity_tree =
   from_none 1 _ validity (SpellsLevel.prefixed (SpellsPrefixed.primary
       (SpellsPrimary.is_valid
       record {
@@ -116,6 +99,4 @@ validity_tree = (
         joined = refl;
         first = name_first (codes "hdr") _ _ refl refl (sign_first (codes ".") 11 _ _ refl refl (name_last (codes "h") _ refl refl));
         second = sign_first (codes ".") 11 _ _ refl refl (name_first (codes "isValid") _ _ refl refl (sign_first (codes "(") 2 _ _ refl refl record { front = []; back = _ ∷ []; joined = refl; first = refl; second = sign_last (codes ")") 3 _ refl refl }));
-      }))),
-  lit≤ tt,
-)
+      })))

@@ -87,9 +87,13 @@ mutual
         ws ≡ front ++ back →
         SpellsPrimary depth (PlainExpr.Slice of high low) ws
 
+-- expr: an expression of the weakest level
+abbrev pub SpellsExpr : ℕ → PlainExpr → Grammar
+SpellsExpr depth = SpellsLevel depth weakest
+
 abbrev pub most_operators : ℕ
 most_operators = 64
 
--- expr: an expression of the weakest level, with at most 64 operators
-abbrev pub SpellsExpr : ℕ → PlainExpr → Grammar
-SpellsExpr depth e ws = SpellsLevel depth weakest e ws × (operators_in e ≤ most_operators)
+-- an expression that a program may have
+abbrev pub HasFewOperators : PlainExpr → Type 0
+HasFewOperators e = operators_in e ≤ most_operators

@@ -1,9 +1,9 @@
--- The level and the sign of each operator, how operators are spelled, and how many an expression has, in the manner of the
--- grammar of the P4-16 language specification 1.2.3; the levels are this project's own.
-use Rattle.std.specs.Prelude.{◌≡◌, ℕ, ◌+◌, List, [], Some, slice_get, codes}
+-- The level and the sign of each operator, and how operators are spelled, in the manner of the grammar of the P4-16 language
+-- specification 1.2.3; the levels are this project's own.
+use Rattle.std.specs.Prelude.{◌≡◌, ℕ, List, [], Some, slice_get, codes}
 use Rattle.spelling.specs.Grammar.{Grammar, Nothing, IsSign, Sign, TwoTouching}
 use Rattle.elastic_ast.specs.Operators.{Operator, Or, And, Equal, Differ, Less, AtMost, Greater, AtLeast, BitOr, BitXor, BitAnd, ShiftUp, ShiftDown, Plus, Minus, Join, Times, Turn, Negate, NoOperator, operators}
-use Rattle.elastic_ast.specs.Tree.{PlainExpr}
+unfoldable pub use Rattle.elastic_ast.specs.Operators.{operators_in}
 
 -- Levels are counted from the strongest on: 0 is that of the prefixed operators, and each level above it is that of some
 -- binary operators.
@@ -65,16 +65,3 @@ abbrev pub SpellsOperator : Operator → Grammar
 SpellsOperator ShiftDown = TwoTouching (IsSign (codes ">")) (IsSign (codes ">"))
 SpellsOperator NoOperator = Nothing
 SpellsOperator operator = Sign (text_of operator)
-
--- how many operators an expression has: unary and binary signs, casts, slices, `hash` and `isValid`
-unfoldable pub operators_in : PlainExpr → ℕ
-operators_in (PlainExpr.Num width value) = 0
-operators_in (PlainExpr.Truth truth) = 0
-operators_in (PlainExpr.Named name) = 0
-operators_in (PlainExpr.At lval) = 0
-operators_in (PlainExpr.IsValid header) = 1
-operators_in (PlainExpr.Unary op of) = operators_in of + 1
-operators_in (PlainExpr.Binary op left right) = operators_in left + operators_in right + 1
-operators_in (PlainExpr.Cast width of) = operators_in of + 1
-operators_in (PlainExpr.Slice of high low) = operators_in of + 1
-operators_in (PlainExpr.Hash number of modulus) = operators_in of + 1

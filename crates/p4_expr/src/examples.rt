@@ -6,7 +6,7 @@ ghost use Rattle.elastic_ast.specs.Operators.{Operator};
 ghost use Rattle.elastic_ast.specs.Tree.{PlainExpr};
 ghost use Rattle.spelling.specs.Words.{Word};
 ghost use Rattle.p4_expr.specs.Operators.{SpellsOperator};
-ghost use Rattle.p4_expr.specs.Expressions.{SpellsExpr};
+ghost use Rattle.p4_expr.specs.Expressions.{SpellsExpr, HasFewOperators};
 ghost use Rattle.p4_expr.specs.Examples.{product_in_sum, two_differences, name_in_brackets, shift, parted_shift, four_bits, byte_of_name, two_prefixes, shift_of_sum, and_in_equation, turned_slice, byte_of_sum, hash_of_name, validity, operators_by_code, turned, turned_words};
 
 /// The level and the text of each operator, in the order of their codes. Level 10 is the weakest.
@@ -42,8 +42,9 @@ pub fn more_examples_are_spelled()
     ensures header { SpellsExpr 1 (PlainExpr.IsValid (codes "h")) validity }
 {}
 
-/// A name behind so many prefixes is an expression where these are at most 64, and no words spell it otherwise.
-pub fn at_most_64_operators_are_spelled()
-    ensures spelled { (n : ℕ) → n ≤ 64 → SpellsExpr 0 (turned n) (turned_words n) }
-    ensures only { (n depth : ℕ) (ws : List Word) → SpellsExpr depth (turned n) ws → n ≤ 64 }
+/// A name behind so many prefixes is an expression, and a program may have it where these are at most 64.
+pub fn at_most_64_operators_are_few()
+    ensures spelled { (n : ℕ) → SpellsExpr 0 (turned n) (turned_words n) }
+    ensures few { (n : ℕ) → n ≤ 64 → HasFewOperators (turned n) }
+    ensures no_more { (n : ℕ) → HasFewOperators (turned n) → n ≤ 64 }
 {}

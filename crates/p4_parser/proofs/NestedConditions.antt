@@ -4,7 +4,6 @@ use Rattle.elastic_ast.specs.Tree.{PlainExpr, PlainStmt, PlainStmts}
 use Rattle.spelling.specs.Words.{Word}
 use Rattle.spelling.specs.Brackets.{most_open_from, most_open}
 use Rattle.spelling.proofs.Balance.{most_within}
-use Rattle.p4_expr.specs.Operators.{operators_in}
 use Rattle.p4_expr.proofs.Building.{sign_first, sign_last, name_first, name_last, one_number, from_none}
 use Rattle.p4_parser.specs.Statements.{SpellsPlain, SpellsStmt, SpellsStmts, SpellsBranch, is_bare_block}
 use Rattle.p4_parser.specs.Examples.{only, conditions, drop_words, condition_words, opening_word, closing_word, bracketed_conditions, bare_conditions}
@@ -12,7 +11,6 @@ use Rattle.p4_parser.proofs.StatementTrees.{condition_of_name}
 use Rattle.p4_parser.proofs.StatementsWithin.{stmts_within}
 
 drop_spelled : (depth : ℕ) → SpellsStmt depth false (conditions zero) drop_words
-unfolding operators_in
 drop_spelled depth = SpellsStmt.simple
     record {
       front = _ ∷ _ ∷ _ ∷ [];
@@ -24,7 +22,7 @@ drop_spelled depth = SpellsStmt.simple
             front = _ ∷ [];
             back = _ ∷ [];
             joined = refl;
-            first = (from_none depth (PlainExpr.Num None 1) _ (one_number depth 1 _ (lit< tt) refl), lit≤ tt);
+            first = from_none depth (PlainExpr.Num None 1) _ (one_number depth 1 _ (lit< tt) refl);
             second = sign_last (codes ";") 8 _ refl refl;
           };
     }

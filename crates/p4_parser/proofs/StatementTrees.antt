@@ -4,15 +4,13 @@ use Rattle.p4_lexer.specs.declared.token.Kind.TheVariants as kind
 use Rattle.elastic_ast.specs.Tree.{Name, PlainExpr, PlainStmt, PlainStmts}
 use Rattle.spelling.specs.Grammar.{Begins, IsNamed, IsSign}
 use Rattle.spelling.specs.Words.{Word}
-use Rattle.p4_expr.specs.Operators.{operators_in}
 use Rattle.p4_expr.specs.Expressions.{SpellsExpr}
 use Rattle.p4_expr.proofs.Building.{sign_first, sign_last, reserved_first, reserved_last, name_first, word_last, one_name, from_none}
 use Rattle.p4_parser.specs.Statements.{SpellsCondition, SpellsCall, SpellsStmt, SpellsStmts, SpellsBranch}
 use Rattle.p4_parser.specs.Examples.{inner_else, branch_of_a_stage, only, bare_call}
 
 pub name_alone : (depth : ℕ) (name : Name) (w : Word) → IsNamed name w → SpellsExpr depth (PlainExpr.Named name) (w ∷ [])
-unfolding operators_in
-name_alone depth name w h = (from_none depth (PlainExpr.Named name) (w ∷ []) (one_name depth name w h.0 h.1), lit≤ tt)
+name_alone depth name w h = from_none depth (PlainExpr.Named name) (w ∷ []) (one_name depth name w h.0 h.1)
 
 pub condition_of_name : (depth : ℕ) (name : Name) (head opening w closing : Word) → head.kind ≡ kind.Reserved 9 → head.piece ≡ codes "if" → opening.kind ≡ kind.Sign 2 → opening.piece ≡ codes "(" → w.kind ≡ kind.Name → w.piece ≡ name → closing.kind ≡ kind.Sign 3 → closing.piece ≡ codes ")" → SpellsCondition (suc depth) (PlainExpr.Named name) (head ∷ opening ∷ w ∷ closing ∷ [])
 condition_of_name depth name head opening w closing a1 a2 b1 b2 c1 c2 d1 d2 =

@@ -5,5 +5,6 @@ pub mod Grammar
 pub mod Tables
 pub mod Statements
 pub mod Declarations
+pub mod ExpressionsIn
 pub mod ProgramOf
 pub mod Examples
