@@ -14,6 +14,8 @@ pub mod TypedHeaders
 pub mod TypedRegisters
 pub mod TypedWidths
 pub mod TypedOperands
+pub mod TypedSides
+pub mod TypedSymbols
 pub mod PlaceLaws
 pub mod EntryLaws
 pub mod SlotLaws

@@ -105,7 +105,7 @@ header_good allow ds t header = by (find (λ (member : Name × Name). same heade
     by (Some member) = type_good allow ds t member.0
 
 -- the metadata
-meta_given : (x : PlainDecl) (fields : List Field) → meta_in x ≡ Some fields → x ≡ PlainDecl.Meta fields
+pub meta_given : (x : PlainDecl) (fields : List Field) → meta_in x ≡ Some fields → x ≡ PlainDecl.Meta fields
 meta_given (PlainDecl.Meta other) fields h = let e : other ≡ fields = cc in ap PlainDecl.Meta e
 meta_given (PlainDecl.Include n) fields h = cc
 meta_given (PlainDecl.Symbol n) fields h = cc
@@ -222,7 +222,7 @@ parser_ends allow ds t states h l =
     let p : ParserAt ds states = parser_at ds states h in
     t ParserLoop p.number (PlainDecl.Parser p.name states, p.here, inr l)
 
-take_drop : (n : ℕ) (ds : List PlainDecl) → take n ds ++ drop n ds ≡ ds
+pub take_drop : (n : ℕ) (ds : List PlainDecl) → take n ds ++ drop n ds ≡ ds
 take_drop zero ds = refl
 take_drop (suc n) [] = refl
 take_drop (suc n) (x ∷ xs) = ap (λ z. x ∷ z) (take_drop n xs)

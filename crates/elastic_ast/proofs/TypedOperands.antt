@@ -1,17 +1,17 @@
 -- What a typed expression or statement hands to its parts, in the form that the goals of a recursion under a typed argument
 -- take.
-use Rattle.std.proofs.Common.{◌≡◌, ℕ, Bool, true, List, [], ◌∷◌, ◌++◌, Option, None, subst}
+use Rattle.std.proofs.Common.{◌≡◌, ℕ, Bool, List, [], ◌∷◌, ◌++◌, Option, None, subst}
 use Rattle.elastic_ast.specs.declared.statements.Amount.{Amount}
 use Rattle.elastic_ast.specs.declared.statements.Lval.{Lval}
 use Rattle.elastic_ast.specs.Tree.{Name, PlainExpr, PlainStmt, PlainStmts, PlainLocal}
 use Rattle.elastic_ast.specs.Scope.{Scope}
-use Rattle.elastic_ast.specs.Operators.{operator_of, Comparison, Arithmetic, sort_of}
-use Rattle.elastic_ast.specs.Types.{Ty, Bits, Bare, taking, left_giver, right_giver, lval_type, type_of}
-use Rattle.elastic_ast.specs.Demand.{Alike, HasWidth, Number, Wide, Cut, Boolean, first_broken, alike, has_width}
+use Rattle.elastic_ast.specs.Operators.{operator_of, sort_of}
+use Rattle.elastic_ast.specs.Types.{Ty, Bits, Bare, left_giver, right_giver, lval_type, type_of}
+use Rattle.elastic_ast.specs.Demand.{Alike, HasWidth, Number, Wide, Cut, Boolean, first_broken}
 use Rattle.elastic_ast.specs.AskedOfNames.{asks_amount}
-use Rattle.elastic_ast.specs.AskedInExpressions.{names_at, turned_giver, asks_turned, asks_sort, asks_cast, asks_count, asks_expr, asks_bits, asks_truth, asks_lval}
+use Rattle.elastic_ast.specs.AskedInExpressions.{names_at, turned_giver, asks_turned, asks_cast, asks_count, asks_expr, asks_bits, asks_truth, asks_lval}
 use Rattle.elastic_ast.specs.AskedInStatements.{asks_loop, in_loop, asks_stmt, asks_stmts}
-use Rattle.elastic_ast.proofs.TypedFacts.{parts, head_met}
+use Rattle.elastic_ast.proofs.TypedFacts.{parts}
 use Rattle.elastic_ast.proofs.TypedStays.{operands}
 
 -- the expression asks nothing that isn't so at a place that gives it a width
@@ -47,17 +47,6 @@ typed-hash allow s k m a x giver e h =
     (parts allow (asks_expr s a Bare) (asks_count s k ++ (asks_amount s.before m ++ (Number t ∷ HasWidth t ∷ []))) (subst (λ z. IsTypedExpr allow s z giver) e h)).0
 
 pub ruleset typed = (typed-of, typed-left, typed-right, typed-cast, typed-slice, typed-hash)
-
--- operands of `+` and of `==` have one width, and one of them has one
-pub one_width : (allow : Bool) (a b : Ty) → first_broken allow (asks_sort Arithmetic a b) ≡ None → (has_width (taking a b) ≡ true) × (alike a b ≡ true)
-one_width allow a b h =
-    let p = head_met allow (Number a) (Number b ∷ HasWidth (taking a b) ∷ Alike a b ∷ []) h in
-    let q = head_met allow (Number b) (HasWidth (taking a b) ∷ Alike a b ∷ []) p.1 in
-    let r = head_met allow (HasWidth (taking a b)) (Alike a b ∷ []) q.1 in
-    (r.0, (head_met allow (Alike a b) [] r.1).0)
-
-pub one_width_compared : (allow : Bool) (a b : Ty) → first_broken allow (asks_sort Comparison a b) ≡ None → (has_width (taking a b) ≡ true) × (alike a b ≡ true)
-one_width_compared allow a b h = one_width allow a b h
 
 -- statements
 pub typed-block : (allow : Bool) (s : Scope) (locals : List PlainLocal) (stage : Option ℕ) (xs : PlainStmts) (x : PlainStmt) → x ≡ PlainStmt.Block stage xs → first_broken allow (asks_stmt s locals x) ≡ None → first_broken allow (asks_stmts s locals xs) ≡ None
