@@ -7,3 +7,4 @@ pub mod Statements
 pub mod Declarations
 pub mod ProgramOf
 pub mod Examples
+pub mod WorkedTexts
