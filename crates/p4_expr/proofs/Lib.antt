@@ -7,3 +7,4 @@ pub mod ExprDeeper
 pub mod MoreTrees
 pub mod ExprExact
 pub mod ManyPrefixes
+pub mod Levels

@@ -3,9 +3,11 @@
 
 mod depth_laws;
 mod examples;
+mod level_laws;
 
 pub use depth_laws::{law_of_greater_depths, law_of_open_brackets};
 pub use examples::{
     at_most_64_operators_are_few, examples_are_spelled, more_examples_are_spelled,
     operators_stand_at_their_levels, parted_signs_are_no_operator,
 };
+pub use level_laws::law_of_levels;

@@ -15,3 +15,5 @@ pub mod NestedConditions
 pub mod Peeling
 pub mod Refused
 pub mod DeclarationTrees
+pub mod Cutting
+pub mod WorkedTrees

@@ -8,3 +8,4 @@ pub mod Declarations
 pub mod ExpressionsIn
 pub mod ProgramOf
 pub mod Examples
+pub mod WorkedTexts

@@ -1,12 +1,14 @@
 //! Examples of what the grammar of whole programs spells and of what it doesn't, each the contract of an empty function.
 
-ghost use Rattle.std.specs.Prelude.{ℕ, ◌≤◌, Bool, true, List, [], ◌∷◌, Some, None, codes};
+ghost use Rattle.std.specs.Prelude.{◌≡◌, ℕ, ◌≤◌, Bool, true, List, [], ◌∷◌, Some, None, codes};
 ghost use Rattle.elastic_ast.specs.declared.statements.Amount.TheVariants as Amount;
 ghost use Rattle.elastic_ast.specs.Tree.{PlainExpr, PlainStmt, PlainStmts, PlainTable, PlainDecl, PlainProgram};
 ghost use Rattle.spelling.specs.Words.{Word};
+ghost use Rattle.spelling.specs.Brackets.{most_open};
 ghost use Rattle.p4_parser.specs.Tables.{SpellsTable};
 ghost use Rattle.p4_parser.specs.Statements.{SpellsStmt, SpellsStmts};
 ghost use Rattle.p4_parser.specs.Declarations.{SpellsProgram};
+ghost use Rattle.p4_parser.specs.WorkedTexts.{worked_declarations, worked_declarations_tree, worked_parser, worked_parser_tree, worked_control, worked_control_tree, worked_end, worked_end_tree};
 ghost use Rattle.p4_parser.specs.Examples.{inner_else, branch_of_a_stage, touching_closings, wider_number, too_wide, two_empty_keys, only, bare_call, conditions, bracketed_conditions, bare_conditions};
 
 /// An `else` behind two `if` belongs to the inner one. Each branch is one statement without brackets, and counts as one.
@@ -52,4 +54,13 @@ pub fn conditions_need_a_depth_of_their_number()
     ensures bare { (n : ℕ) → SpellsStmts n (only (conditions n)) (bare_conditions n) }
     ensures tree { (n depth : ℕ) (ws : List Word) → SpellsStmts depth (only (conditions n)) ws → n ≤ depth }
     ensures words { (n depth : ℕ) (stmts : PlainStmts) → SpellsStmts depth stmts (bracketed_conditions n) → n ≤ depth }
+{}
+
+/// Declarations that together use every alternative of the grammar, with their trees. The control has 5 brackets open at once.
+pub fn worked_declarations_are_spelled()
+    ensures declarations { SpellsProgram 2 worked_declarations_tree worked_declarations }
+    ensures of_a_parser { SpellsProgram 3 worked_parser_tree worked_parser }
+    ensures of_a_control { SpellsProgram 5 worked_control_tree worked_control }
+    ensures open_in_the_control { most_open worked_control ≡ 5 }
+    ensures end { SpellsProgram 3 worked_end_tree worked_end }
 {}

@@ -14,7 +14,7 @@ pub use grammar_examples::{
     block_of_a_stage_is_one_statement, conditions_need_a_depth_of_their_number,
     else_goes_to_the_inner_if, no_condition_without_depth,
     no_constant_has_a_number_of_another_width, no_table_has_two_empty_keys, no_width_is_too_wide,
-    touching_signs_close_two_types,
+    touching_signs_close_two_types, worked_declarations_are_spelled,
 };
 pub use grammar_laws::{
     law_of_first_declarations, law_of_greater_depths, law_of_open_brackets, law_of_open_ends,
