@@ -1,9 +1,8 @@
 -- How the worked declarations are spelled.
-use Rattle.std.proofs.Common.{[], ◌∷◌, true, false, None, Some, codes, refl, inl, inr, lit<, lit≤}
+use Rattle.std.proofs.Common.{[], ◌∷◌, true, false, None, Some, codes, refl, inl, inr, lit<}
 use Rattle.elastic_ast.specs.Operators.{Or, And, Equal, Differ, AtMost, Greater, AtLeast, BitOr, BitXor, BitAnd, ShiftDown, Join, Negate}
 use Rattle.elastic_ast.specs.declared.statements.Lval.TheVariants as lval
 use Rattle.elastic_ast.specs.Tree.{PlainExpr, PlainKeyset}
-use Rattle.p4_expr.specs.Operators.{operators_in}
 use Rattle.p4_expr.specs.Expressions.{SpellsLevel, SpellsPrefixed, SpellsPrimary}
 use Rattle.p4_expr.proofs.Building.{sign_first, sign_last, reserved_first, reserved_last, name_first, name_last, word_first, word_last, touching, lift}
 use Rattle.p4_parser.specs.Tables.{Property}
@@ -13,7 +12,6 @@ use Rattle.p4_parser.specs.WorkedTexts.{worked_declarations, worked_declarations
 use Rattle.p4_parser.proofs.Cutting.{cut, apart_pairs}
 
 pub worked_declarations_spelled : SpellsProgram 2 worked_declarations_tree worked_declarations
-unfolding operators_in
 worked_declarations_spelled =
     (cut (_ ∷ []) _ (lit< tt, word_last _ refl) (cut (_ ∷ []) _ (lit< tt, word_last _ refl) (cut (_ ∷ _ ∷ _ ∷ _ ∷ []) _
     (reserved_first (codes "symbolic") 18 _ _ refl refl (reserved_first (codes "int") 12 _ _ refl refl (name_first (codes "n")
@@ -140,7 +138,6 @@ worked_declarations_spelled =
     refl))))))))))
 
 pub worked_parser_spelled : SpellsProgram 3 worked_parser_tree worked_parser
-unfolding operators_in
 worked_parser_spelled =
     (cut (_ ∷ _ ∷ _ ∷ _ ∷ _ ∷ _ ∷ _ ∷ _ ∷ _ ∷ _ ∷ _ ∷ _ ∷ _ ∷ _ ∷ _ ∷ _ ∷ _ ∷ _ ∷ _ ∷ _ ∷ _ ∷ _ ∷ _ ∷ _ ∷ _ ∷ _ ∷ _ ∷ _ ∷ _ ∷ _
     ∷ _ ∷ _ ∷ _ ∷ _ ∷ _ ∷ _ ∷ _ ∷ _ ∷ _ ∷ _ ∷ _ ∷ _ ∷ _ ∷ _ ∷ _ ∷ _ ∷ _ ∷ _ ∷ _ ∷ _ ∷ _ ∷ _ ∷ _ ∷ _ ∷ _ ∷ _ ∷ _ ∷ _ ∷ _ ∷ _ ∷ _
@@ -167,8 +164,7 @@ worked_parser_spelled =
       (lift 10 (SpellsLevel.prefixed (SpellsPrefixed.primary
           (SpellsPrimary.place (cut (_ ∷ _ ∷ _ ∷ []) _ (name_first (codes "hdr") _ _ refl refl (sign_first (codes ".") 11 _ _ refl
           refl (name_last (codes "h") _ refl refl))) (sign_first (codes ".") 11 _ _ refl refl (name_last (codes "v") _ refl
-          refl))))))),
-      lit≤ tt,
+          refl)))))))
     ) (sign_last (codes ")") 3 _ refl refl))) (sign_first (codes "{") 0 _ _ refl refl (cut (_ ∷ _ ∷ _ ∷ _ ∷
     _ ∷ _ ∷ _ ∷ _ ∷ _ ∷ _ ∷ _ ∷ _ ∷ _ ∷ _ ∷ []) _ (cut (_ ∷ _ ∷ _ ∷ _ ∷ _ ∷ _ ∷ []) _ (cut (_ ∷ _ ∷ _ ∷ []) _ (inl (cut (_ ∷
     []) _ ((tt, lit< tt), word_last _ refl) (sign_first (codes "&&&") 29 _ _ refl refl ((tt, lit< tt), word_last _ refl))))
@@ -184,7 +180,6 @@ worked_parser_spelled =
     refl)))))) refl)
 
 pub worked_control_spelled : SpellsProgram 5 worked_control_tree worked_control
-unfolding operators_in
 worked_control_spelled =
     (cut (_ ∷ _ ∷ _ ∷ _ ∷ _ ∷ _ ∷ _ ∷ _ ∷ _ ∷ _ ∷ _ ∷ _ ∷ _ ∷ _ ∷ _ ∷ _ ∷ _ ∷ _ ∷ _ ∷ _ ∷ _ ∷ _ ∷ _ ∷ _ ∷ _ ∷ _ ∷ _ ∷ _ ∷ _ ∷ _
     ∷ _ ∷ _ ∷ _ ∷ _ ∷ _ ∷ _ ∷ _ ∷ _ ∷ _ ∷ _ ∷ _ ∷ _ ∷ _ ∷ _ ∷ _ ∷ _ ∷ _ ∷ _ ∷ _ ∷ _ ∷ _ ∷ _ ∷ _ ∷ _ ∷ _ ∷ _ ∷ _ ∷ _ ∷ _ ∷ _ ∷ _
@@ -247,8 +242,7 @@ worked_control_spelled =
           ",") 10 _ refl refl)) (lift 10 (SpellsLevel.prefixed (SpellsPrefixed.primary (SpellsPrimary.place (cut (_ ∷ _ ∷ _ ∷ []) _
           (name_first (codes "hdr") _ _ refl refl (sign_first (codes ".") 11 _ _ refl refl (name_last (codes "h") _ refl refl)))
           (sign_first (codes ".") 11 _ _ refl refl (name_last (codes "v") _ refl refl))))))) (sign_first (codes ",") 10 _ _ refl refl
-          (name_last (codes "n") _ refl refl)) (sign_last (codes ")") 3 _ refl refl) refl)))),
-      lit≤ tt,
+          (name_last (codes "n") _ refl refl)) (sign_last (codes ")") 3 _ refl refl) refl))))
     ) (sign_last (codes ";") 8 _
     refl refl)))) (cut (_ ∷ _ ∷ _ ∷ _ ∷ _ ∷ _ ∷ _ ∷ _ ∷ _ ∷ _ ∷ _ ∷ _ ∷ _ ∷ _ ∷ _ ∷ _ ∷ _ ∷ []) _ (cut (_ ∷ _ ∷ _ ∷ _ ∷ _ ∷ _ ∷
     []) _ (name_first (codes "meta") _ _ refl refl (sign_first (codes ".") 11 _ _ refl refl (name_first (codes "x") _ _ refl
@@ -258,8 +252,7 @@ worked_control_spelled =
     refl)))) (sign_first (codes ".") 11 _ _ refl refl (name_first (codes "read") _ _ refl refl (cut (_ ∷ _ ∷ _ ∷ []) _
     (sign_first (codes "(") 2 _ _ refl refl (cut (_ ∷ []) _ (
       (lift 10 (SpellsLevel.prefixed (SpellsPrefixed.primary
-          (SpellsPrimary.name (name_last (codes "p") _ refl refl))))),
-      lit≤ tt,
+          (SpellsPrimary.name (name_last (codes "p") _ refl refl)))))
     ) (sign_last (codes ")") 3 _ refl refl))) (sign_last
     (codes ";") 8 _ refl refl))))))) (cut (_ ∷ _ ∷ _ ∷ _ ∷ _ ∷ _ ∷ _ ∷ _ ∷ _ ∷ _ ∷ _ ∷ _ ∷ _ ∷ _ ∷ _ ∷ _ ∷ _ ∷ []) _ (cut (_ ∷
     _ ∷ _ ∷ _ ∷ []) _ (name_first (codes "r") _ _ refl refl (sign_first (codes "[") 4 _ _ refl refl (cut (_ ∷ []) _ (name_last
@@ -269,12 +262,10 @@ worked_control_spelled =
       (lift 10 (SpellsLevel.prefixed
           (SpellsPrefixed.primary (SpellsPrimary.place (name_first (codes "meta") _ _ refl refl (sign_first (codes ".") 11 _ _ refl
           refl (name_first (codes "x") _ _ refl refl (sign_first (codes "[") 4 _ _ refl refl (cut (_ ∷ []) _ (name_last (codes "i") _
-          refl refl) (sign_last (codes "]") 5 _ refl refl)))))))))),
-      lit≤ tt,
+          refl refl) (sign_last (codes "]") 5 _ refl refl))))))))))
     ) (sign_first (codes ",") 10 _ _ refl refl (
       (lift 10
-          (SpellsLevel.prefixed (SpellsPrefixed.primary (SpellsPrimary.number ((tt, lit< tt), word_last _ refl))))),
-      lit≤ tt,
+          (SpellsLevel.prefixed (SpellsPrefixed.primary (SpellsPrimary.number ((tt, lit< tt), word_last _ refl)))))
     )))
     (sign_last (codes ")") 3 _ refl refl))) (sign_last (codes ";") 8 _ refl refl))))) (cut (_ ∷ _ ∷ _ ∷ _ ∷ _ ∷ _ ∷ _ ∷ _ ∷ [])
     _ (cut (_ ∷ _ ∷ _ ∷ []) _ (name_first (codes "hdr") _ _ refl refl (sign_first (codes ".") 11 _ _ refl refl (name_last
@@ -301,8 +292,7 @@ worked_control_spelled =
     (sign_first (codes ".") 11 _ _ refl refl (name_last (codes "h") _ refl refl))) (sign_first (codes ".") 11 _ _ refl refl
     (name_last (codes "v") _ refl refl))) (sign_first (codes "=") 12 _ _ refl refl (cut (_ ∷ []) _ (
       (lift 10
-          (SpellsLevel.prefixed (SpellsPrefixed.primary (SpellsPrimary.name (name_last (codes "p") _ refl refl))))),
-      lit≤ tt,
+          (SpellsLevel.prefixed (SpellsPrefixed.primary (SpellsPrimary.name (name_last (codes "p") _ refl refl)))))
     )
     (sign_last (codes ";") 8 _ refl refl)))) (cut (_ ∷ _ ∷ _ ∷ _ ∷ _ ∷ _ ∷ _ ∷ _ ∷ _ ∷ _ ∷ _ ∷ _ ∷ _ ∷ _ ∷ []) _ (cut (_ ∷ _ ∷
     _ ∷ []) _ (name_first (codes "meta") _ _ refl refl (sign_first (codes ".") 11 _ _ refl refl (name_first (codes "y") _ _
@@ -317,8 +307,7 @@ worked_control_spelled =
           (name_last (codes "p") _ refl refl))))) (sign_last (codes "^") 18 _ refl refl) (SpellsLevel.binary BitAnd (_ ∷ []) (_ ∷ [])
           (_ ∷ []) record { coded = refl; level_is = refl } (lift 4 (SpellsLevel.prefixed (SpellsPrefixed.primary (SpellsPrimary.name
           (name_last (codes "p") _ refl refl))))) (sign_last (codes "&") 16 _ refl refl) (lift 3 (SpellsLevel.prefixed
-          (SpellsPrefixed.primary (SpellsPrimary.name (name_last (codes "p") _ refl refl))))) refl) refl) refl)),
-      lit≤ tt,
+          (SpellsPrefixed.primary (SpellsPrimary.name (name_last (codes "p") _ refl refl))))) refl) refl) refl))
     ) (sign_last
     (codes ";") 8 _ refl refl)))) (cut (_ ∷ _ ∷ _ ∷ _ ∷ _ ∷ _ ∷ _ ∷ _ ∷ []) _ (cut (_ ∷ _ ∷ _ ∷ []) _ (name_first (codes "hdr")
     _ _ refl refl (sign_first (codes ".") 11 _ _ refl refl (name_last (codes "h") _ refl refl))) (sign_first (codes ".") 11 _ _
@@ -432,8 +421,7 @@ worked_control_spelled =
     4 _ _ refl refl (cut (_ ∷ []) _ (name_last (codes "i") _ refl refl) (sign_last (codes "]") 5 _ refl refl))) (cut (_ ∷ _ ∷ _
     ∷ []) _ (sign_first (codes "(") 2 _ _ refl refl (cut (_ ∷ []) _ (cut (_ ∷ []) _ (
       (lift 10 (SpellsLevel.prefixed
-          (SpellsPrefixed.primary (SpellsPrimary.name (name_last (codes "c") _ refl refl))))),
-      lit≤ tt,
+          (SpellsPrefixed.primary (SpellsPrimary.name (name_last (codes "c") _ refl refl)))))
     ) refl) (sign_last (codes ")")
     3 _ refl refl))) (sign_last (codes ";") 8 _ refl refl))))) SpellsStmts.no_more refl) (sign_last (codes "}") 1 _ refl refl)
     refl) (SpellsStmts.one_more {open_end = false} (_ ∷ _ ∷ _ ∷ _ ∷ _ ∷ _ ∷ _ ∷ _ ∷ _ ∷ _ ∷ _ ∷ _ ∷ _ ∷ _ ∷ _ ∷ _ ∷ _ ∷ _ ∷ _ ∷
@@ -445,8 +433,7 @@ worked_control_spelled =
           refl) (SpellsPrefixed.primary (SpellsPrimary.is_valid (cut (_ ∷ _ ∷ _ ∷ []) _ (name_first (codes "hdr") _ _ refl refl
           (sign_first (codes ".") 11 _ _ refl refl (name_last (codes "h") _ refl refl))) (sign_first (codes ".") 11 _ _ refl refl
           (name_first (codes "isValid") _ _ refl refl (sign_first (codes "(") 2 _ _ refl refl (cut ([]) _ refl (sign_last (codes ")")
-          3 _ refl refl)))))))) refl))),
-      lit≤ tt,
+          3 _ refl refl)))))))) refl)))
     ) (sign_last (codes ")") 3 _ refl refl)))) (SpellsBranch.alone refl
     (SpellsStmt.applied (name_first (codes "t") _ _ refl refl (sign_first (codes ".") 11 _ _ refl refl (name_first (codes
     "apply") _ _ refl refl (cut (_ ∷ _ ∷ []) _ (sign_first (codes "(") 2 _ _ refl refl (cut ([]) _ refl (sign_last (codes ")")
@@ -456,8 +443,7 @@ worked_control_spelled =
     (name_first (codes "std") _ _ refl refl (sign_first (codes ".") 11 _ _ refl refl (name_last (codes "drop") _ refl refl)))
     (sign_first (codes "=") 12 _ _ refl refl (cut (_ ∷ []) _ (
       (lift 10 (SpellsLevel.prefixed (SpellsPrefixed.primary
-          (SpellsPrimary.number ((tt, lit< tt), word_last _ refl))))),
-      lit≤ tt,
+          (SpellsPrimary.number ((tt, lit< tt), word_last _ refl)))))
     ) (sign_last (codes ";") 8 _ refl refl)))))
     SpellsStmts.no_more refl) (sign_last (codes "}") 1 _ refl refl) refl) refl) (SpellsStmts.one_more {open_end = false} (_ ∷ _
     ∷ _ ∷ _ ∷ _ ∷ _ ∷ _ ∷ _ ∷ _ ∷ []) _ (SpellsStmt.block ([]) (_ ∷ []) (_ ∷ _ ∷ _ ∷ _ ∷ _ ∷ _ ∷ _ ∷ []) (_ ∷ []) refl
@@ -465,16 +451,14 @@ worked_control_spelled =
     (SpellsStmt.called (name_first (codes "b") _ _ refl refl (cut ([]) _ refl (cut (_ ∷ _ ∷ _ ∷ _ ∷ _ ∷ []) _ (sign_first
     (codes "(") 2 _ _ refl refl (cut (_ ∷ _ ∷ _ ∷ []) _ (cut (_ ∷ []) _ (
       (lift 10 (SpellsLevel.prefixed (SpellsPrefixed.primary
-          (SpellsPrimary.number ((tt, lit< tt), word_last _ refl))))),
-      lit≤ tt,
+          (SpellsPrimary.number ((tt, lit< tt), word_last _ refl)))))
     ) (cut (_ ∷ _ ∷ []) _ (sign_first (codes ",") 10 _ _
     refl refl (
       (lift 10 (SpellsLevel.prefixed (SpellsPrefixed.primary (SpellsPrimary.number (
         (tt, lit< tt),
         word_last _
             refl,
-      ))))),
-      lit≤ tt,
+      )))))
     )) refl)) (sign_last (codes ")") 3 _ refl refl))) (sign_last (codes ";") 8 _ refl refl)))))
     SpellsStmts.no_more refl) (sign_last (codes "}") 1 _ refl refl) refl) (SpellsStmts.one_more {open_end = true} (_ ∷ _ ∷ _ ∷
     _ ∷ _ ∷ _ ∷ _ ∷ _ ∷ _ ∷ _ ∷ _ ∷ _ ∷ _ ∷ _ ∷ _ ∷ _ ∷ _ ∷ _ ∷ _ ∷ _ ∷ []) _ (SpellsStmt.without_else {open_end = false} (_ ∷
@@ -502,8 +486,7 @@ worked_control_spelled =
             word_last _ refl,
           ))))) (sign_last (codes "<=") 24 _ refl refl) (lift 6 (SpellsLevel.prefixed (SpellsPrefixed.primary
           (SpellsPrimary.place (name_first (codes "meta") _ _ refl refl (sign_first (codes ".") 11 _ _ refl refl (name_first (codes
-          "y") _ _ refl refl refl))))))) refl)) refl) refl),
-      lit≤ tt,
+          "y") _ _ refl refl refl))))))) refl)) refl) refl)
     ) (sign_last (codes ")") 3 _ refl refl))))
     (SpellsBranch.in_brackets (_ ∷ []) ([]) (_ ∷ []) (sign_last (codes "{") 0 _ refl refl) SpellsStmts.no_more (sign_last
     (codes "}") 1 _ refl refl) refl) refl) (SpellsStmts.one_more {open_end = true} (_ ∷ _ ∷ _ ∷ _ ∷ _ ∷ _ ∷ _ ∷ _ ∷ _ ∷ _ ∷ _ ∷
@@ -527,16 +510,14 @@ worked_control_spelled =
           (SpellsPrimary.place (name_first (codes "meta") _ _ refl refl (sign_first (codes ".") 11 _ _ refl refl (name_first (codes
           "y") _ _ refl refl refl))))))) (sign_last (codes ">") 7 _ refl refl) (lift 6 (SpellsLevel.prefixed (SpellsPrefixed.primary
           (SpellsPrimary.place (name_first (codes "meta") _ _ refl refl (sign_first (codes ".") 11 _ _ refl refl (name_first (codes
-          "y") _ _ refl refl refl))))))) refl)) refl),
-      lit≤ tt,
+          "y") _ _ refl refl refl))))))) refl)) refl)
     ) (sign_last (codes ")") 3 _ refl refl)))) (SpellsBranch.alone refl
     (SpellsStmt.with_else (_ ∷ _ ∷ _ ∷ _ ∷ _ ∷ _ ∷ []) (_ ∷ _ ∷ _ ∷ _ ∷ _ ∷ _ ∷ []) (_ ∷ []) (_ ∷ _ ∷ _ ∷ _ ∷ _ ∷ _ ∷ [])
     (reserved_first (codes "if") 9 _ _ refl refl (sign_first (codes "(") 2 _ _ refl refl (cut (_ ∷ _ ∷ _ ∷ []) _ (
       (lift 2
           (SpellsLevel.binary Equal (_ ∷ []) (_ ∷ []) (_ ∷ []) record { coded = refl; level_is = refl } (lift 8 (SpellsLevel.prefixed
           (SpellsPrefixed.primary (SpellsPrimary.name (name_last (codes "c") _ refl refl))))) (sign_last (codes "==") 22 _ refl refl)
-          (lift 7 (SpellsLevel.prefixed (SpellsPrefixed.primary (SpellsPrimary.number ((tt, lit< tt), word_last _ refl))))) refl)),
-      lit≤ tt,
+          (lift 7 (SpellsLevel.prefixed (SpellsPrefixed.primary (SpellsPrimary.number ((tt, lit< tt), word_last _ refl))))) refl))
     ) (sign_last (codes ")") 3 _ refl refl)))) (SpellsBranch.alone refl (SpellsStmt.applied (name_first (codes "t") _ _
     refl refl (sign_first (codes ".") 11 _ _ refl refl (name_first (codes "apply") _ _ refl refl (cut (_ ∷ _ ∷ []) _
     (sign_first (codes "(") 2 _ _ refl refl (cut ([]) _ refl (sign_last (codes ")") 3 _ refl refl))) (sign_last (codes ";") 8 _
@@ -574,14 +555,12 @@ worked_control_spelled =
                 (sign_first (codes ":") 9 _ _ refl refl (word_last _ refl))) (sign_last (codes "]") 5 _ refl refl))),
           ) refl)))) (sign_last
           (codes ")") 3 _ refl refl) refl)) refl))) (touching _ _ refl refl refl refl refl) (lift 2 (SpellsLevel.prefixed
-          (SpellsPrefixed.primary (SpellsPrimary.number ((tt, lit< tt), word_last _ refl))))) refl)),
-      lit≤ tt,
+          (SpellsPrefixed.primary (SpellsPrimary.number ((tt, lit< tt), word_last _ refl))))) refl))
     ) (sign_last (codes ";")
     8 _ refl refl))))) SpellsStmts.no_more refl) (sign_last (codes "}") 1 _ refl refl) refl) SpellsStmts.no_more refl) refl)
     refl) refl) refl) refl) (sign_last (codes "}") 1 _ refl refl))))) (sign_last (codes "}") 1 _ refl refl)))))) refl)
 
 pub worked_end_spelled : SpellsProgram 3 worked_end_tree worked_end
-unfolding operators_in
 worked_end_spelled =
     (cut (_ ∷ _ ∷ _ ∷ _ ∷ _ ∷ _ ∷ _ ∷ _ ∷ _ ∷ _ ∷ _ ∷ _ ∷ _ ∷ _ ∷ _ ∷ _ ∷ _ ∷ _ ∷ _ ∷ _ ∷ _ ∷ _ ∷ _ ∷ _ ∷ []) _ (reserved_first
     (codes "control") 3 _ _ refl refl (name_first (codes "D") _ _ refl refl (cut (_ ∷ _ ∷ _ ∷ _ ∷ _ ∷ _ ∷ _ ∷ _ ∷ []) _
