@@ -98,11 +98,10 @@ not_passed states passed name place state free h there called = by (list_any (eq
 
 with_place : (states : List PlainState) (passed : List ℕ) (name : Name) (place : ℕ) (state : PlainState) → IsLoopFree states → Passed states passed name → slice_get states place ≡ Some state → state.name ≡ name → IsDistinct eqb (place ∷ passed) × AreStates states (place ∷ passed)
 unfolding IsDistinct
-with_place states passed name place state free h there called =
-    (
-      (none_equal place passed (not_passed states passed name place state free h there called), h.apart),
-      λ other among_them. by other (one_is (eqb other place) (list_any (eqb other) passed) among_them),
-    )
+with_place states passed name place state free h there called = (
+  (none_equal place passed (not_passed states passed name place state free h there called), h.apart),
+  λ other among_them. by other (one_is (eqb other place) (list_any (eqb other) passed) among_them),
+)
   where
     by : (other : ℕ) → (eqb other place ≡ true) ⊎ (list_any (eqb other) passed ≡ true) → other < length states
     by other (inl e) = subst (λ (n : ℕ). n < length states) (sym (eqb-true other place e)) (slice_get_within states place state there)
@@ -116,6 +115,7 @@ passed_more states passed name next place state free h there called goes_to =
   where
     step : (other : ℕ) (its : PlainState) → slice_get states other ≡ Some its → its.name ≡ next → among (targets_of state.next) next ≡ true → goes states place other ≡ true
     step other its at its_name h = ap (λ (o : Option PlainState). goes_on o (slice_get states other)) there ∙ ap (goes_on (Some state)) at ∙ ap (among (targets_of state.next)) its_name ∙ h
+
     by : (one other : ℕ) (its : PlainState) → (eqb one place ≡ true) ⊎ (list_any (eqb one) passed ≡ true) → slice_get states other ≡ Some its → its.name ≡ next → IsNext (targets_of state.next) next → Leads states one other
     by one other its (inl e) at its_name (inl in_targets) = subst (λ (n : ℕ). Leads states n other) (sym (eqb-true one place e)) (direct other (step other its at its_name in_targets))
     by one other its (inr e) at its_name (inl in_targets) = further place other (h.lead one place state e there called) (step other its at its_name in_targets)
@@ -134,6 +134,7 @@ turns_enough zero (suc most) decls sizes states bytes free less passed name h co
         let both = with_place states passed name its.place state free h its.there (sym (same_told name state.name its.passes)) in
         let many = length-le_from_distinct_below (its.place ∷ passed) (length states) both.0 both.1 in
         absurd (omega (arith, many, count))
+
     by : (b : Bool) → (if b then Some parsed else (option_and_then (λ (state : PlainState). option_and_then (λ (more : Parsed). parsed_from most decls sizes states bytes (next_of (outside decls sizes None) more.memory state.next) more) (all_extracted decls bytes parsed state.extracts)) (find (λ (state : PlainState). same name state.name) states)))
         ≡ (if b then Some parsed else None)
     by true = refl
@@ -147,6 +148,7 @@ turns_enough (suc few) (suc most) decls sizes states bytes free less passed name
         ≡ option_and_then (λ (more : Parsed). parsed_from few decls sizes states bytes (next_of (outside decls sizes None) more.memory state.next) more) o
     extract state None each = refl
     extract state (Some more) each = each more
+
     go : (o : Option PlainState) → find (λ (state : PlainState). same name state.name) states ≡ o
         → ((passed : List ℕ) (next : Name) → Passed states passed next → length passed + few ≡ length states → (parsed : Parsed) → parsed_from most decls sizes states bytes next parsed ≡ parsed_from few decls sizes states bytes next parsed)
         → option_and_then (λ (state : PlainState). option_and_then (λ (more : Parsed). parsed_from most decls sizes states bytes (next_of (outside decls sizes None) more.memory state.next) more) (all_extracted decls bytes parsed state.extracts)) o
@@ -158,6 +160,7 @@ turns_enough (suc few) (suc most) decls sizes states bytes free less passed name
         (λ more. again (its.place ∷ passed) (next_of (outside decls sizes None) more.memory state.next)
         (passed_more states passed name (next_of (outside decls sizes None) more.memory state.next) its.place state free h its.there (sym (same_told name state.name its.passes)) (next_is (outside decls sizes None) more.memory state.next))
         (omega (arith, count)) more)
+
     by : (b : Bool)
         → ((passed : List ℕ) (next : Name) → Passed states passed next → length passed + few ≡ length states → (parsed : Parsed) → parsed_from most decls sizes states bytes next parsed ≡ parsed_from few decls sizes states bytes next parsed)
         → (if b then Some parsed else (option_and_then (λ (state : PlainState). option_and_then (λ (more : Parsed). parsed_from most decls sizes states bytes (next_of (outside decls sizes None) more.memory state.next) more) (all_extracted decls bytes parsed state.extracts)) (find (λ (state : PlainState). same name state.name) states)))

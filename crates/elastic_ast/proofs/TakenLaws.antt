@@ -1,17 +1,17 @@
 -- A taken vector has exactly the locations of its program, each with a word of its width.
-use Rattle.std.proofs.Common.{◌≡◌, ℕ, zero, suc, ◌+◌, ◌*◌, ◌<◌, ◌^◌, ◌%◌, Bool, true, false, cond, not, ◌&&◌, ◌||◌, eqb, nat_le, List, [], ◌∷◌, ◌++◌, map, flat_map, find, length, drop, Option, Some, None, IfSome, is_some, option_map, option_and_then, unwrap_or, refl, sym, ap, subst, ◌∙◌, true≢false, arith, codes, pow_pos, mod-lt, if◌then◌else◌}
-use Rattle.std.specs.List.{list_all, list_any}
+use Rattle.std.proofs.Common.{◌≡◌, ℕ, zero, suc, ◌+◌, ◌*◌, ◌<◌, ◌^◌, Bool, true, false, cond, not, ◌&&◌, ◌||◌, eqb, nat_le, List, [], ◌∷◌, ◌++◌, map, flat_map, find, length, Option, Some, None, IfSome, option_map, option_and_then, unwrap_or, refl, sym, ap, subst, ◌∙◌, true≢false, arith, codes, pow_pos, mod-lt, if◌then◌else◌}
+use Rattle.std.specs.List.{list_all}
 use Rattle.std.proofs.lemmas.Slice.Eq.{bytes_eq-Decides}
 use Rattle.elx_bits.specs.Words.{Word}
 use Rattle.elastic_ast.specs.declared.flat.Location.TheVariants as location
 use Rattle.elastic_ast.specs.declared.flat.Packet.{Packet}
 use Rattle.elastic_ast.specs.declared.declarations.Field.{Field}
-use Rattle.elastic_ast.specs.Tree.{Name, PlainDecl, PlainState, PlainNext}
+use Rattle.elastic_ast.specs.Tree.{Name, PlainDecl, PlainState}
 use Rattle.elastic_ast.specs.Scope.{same, among, or_else}
 use Rattle.elastic_ast.specs.Sums.{symbols_of, size_of}
 use Rattle.elastic_ast.specs.Places.{place, valid_place}
 use Rattle.elastic_ast.specs.LookUps.{members_of, member_name, is_member, fields_of_type, header_fields, header_bits, meta_fields, width_among, std_fields}
-use Rattle.elastic_ast.specs.Memory.{Memory, Words, Writes, At, held, words_of, written_or, over, and_then, put}
+use Rattle.elastic_ast.specs.Memory.{Memory, Writes, At, held, written_or, over, and_then, put}
 use Rattle.elastic_ast.specs.Locations.{PlaceWidth, field_locations, member_locations, each_below, meta_locations, std_locations, locations, width_found, width_at_place, zeros}
 use Rattle.elastic_ast.specs.PacketBits.{bits_at}
 use Rattle.elastic_ast.specs.Parts.{states_of}
@@ -42,6 +42,7 @@ same_behind (a ∷ front) one other = by (eqb a a) (eqb_itself a) ∙ same_behin
   where
     eqb_itself : (a : ℕ) → eqb a a ≡ true
     eqb_itself a = grind (arith)
+
     by : (b : Bool) → b ≡ true → (b && same (front ++ one) (front ++ other)) ≡ same (front ++ one) (front ++ other)
     by true h = refl
     by false h = absurd (true≢false (sym h))
@@ -111,6 +112,7 @@ members_field_none decls header field member h = other (fields_of_type decls mem
       where
         first_name : location.Header header field ≡ location.Header member.1 name → header ≡ member.1
         first_name e = cc
+
     other : (fields : List Field) → width_found (field_locations member.1 fields) (place (location.Header header field) None) ≡ None
     other [] = refl
     other (f ∷ fields) = rw (apart f.name) (other fields)
@@ -124,9 +126,11 @@ fields_found header field width (f ∷ fields) h = rw (same_place) (by (same fie
       where
         eqb_itself : (a : ℕ) → eqb a a ≡ true
         eqb_itself a = grind (arith)
+
         by_length : (b : Bool) → b ≡ true → (b && same (header ++ field) (header ++ f.name)) ≡ same (header ++ field) (header ++ f.name)
         by_length true h = refl
         by_length false h = absurd (true≢false (sym h))
+
     by : (b : Bool) → (width_among fields field ≡ Some width → width_found (field_locations header fields) (place (location.Header header field) None) ≡ Some width)
         → option_map (λ (x : Field). x.width) (cond b (Some f) (find (λ x. same field x.name) fields)) ≡ Some width
         → option_map (λ (known : PlaceWidth). known.1) (cond b (Some (place (location.Header header f.name) None, f.width)) (find (λ known. same (place (location.Header header field) None) known.0) (field_locations header fields))) ≡ Some width
@@ -241,7 +245,7 @@ to_found : (decls : List PlainDecl) (sizes : List ℕ) (header : Name) (fields :
 to_found decls sizes header [] each = tt
 to_found decls sizes header (field ∷ fields) each = (
   found_first (flat_map (member_locations decls) (members_of decls)) (flat_map (meta_locations decls sizes) (meta_fields decls) ++ std_locations) (place (location.Header header field.name) None) field.width
-  (field_found decls header field.name field.width (members_of decls) each.0),
+      (field_found decls header field.name field.width (members_of decls) each.0),
   to_found decls sizes header fields each.1,
 )
 

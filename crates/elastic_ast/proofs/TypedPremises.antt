@@ -1,7 +1,6 @@
 -- A typed program meets the premises of the laws of meaning and units.
-use Rattle.std.proofs.Common.{◌≡◌, ℕ, zero, suc, Bool, true, false, not, ◌&&◌, ◌||◌, List, [], ◌∷◌, ◌++◌, map, flat_map, take, length, Option, Some, None, IfSome, Contains, slice_get, ◌⊎◌, inl, inr, refl, sym, ap, subst, ◌∙◌, true≢false, arith, codes}
+use Rattle.std.proofs.Common.{◌≡◌, ℕ, suc, Bool, true, false, not, ◌&&◌, ◌||◌, List, [], ◌∷◌, ◌++◌, map, flat_map, take, Option, Some, None, IfSome, Contains, slice_get, inl, inr, refl, sym, ap, ◌∙◌, true≢false, arith, codes}
 use Rattle.std.specs.List.{list_all}
-use Rattle.std.proofs.lemmas.Slice.Eq.{bytes_eq-Decides}
 use Rattle.elastic_ast.specs.Tree.{Name, PlainDecl, PlainExpr, PlainEntry, PlainTable, PlainState}
 use Rattle.elastic_ast.specs.Scope.{same, among}
 use Rattle.elastic_ast.specs.LookUps.{is_member, header_fields, action_of, table_of}

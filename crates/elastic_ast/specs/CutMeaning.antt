@@ -1,6 +1,6 @@
 -- What it means that the instances of the units of a program do what its body does; this project's own.
-use Rattle.std.specs.Prelude.{◌≡◌, ◌≤◌, ℕ, ◌==◌, Bool, true, false, ⊤, length, is_some, List, [], ◌∷◌, Option, Some, None}
-use Rattle.elastic_ast.specs.Tree.{PlainDecl, PlainStmt, PlainStmts}
+use Rattle.std.specs.Prelude.{◌≡◌, ◌≤◌, ℕ, ◌==◌, Bool, false, length, is_some, List, [], ◌∷◌, Option, Some, None}
+use Rattle.elastic_ast.specs.Tree.{PlainDecl, PlainStmts}
 use Rattle.elastic_ast.specs.Sums.{symbols_of, size_of}
 use Rattle.elastic_ast.specs.Parts.{body_of}
 use Rattle.elastic_ast.specs.Memory.{Spot, At, Reg, Memory, over}

@@ -3,7 +3,6 @@
 use Rattle.std.specs.Prelude.{◌≡◌, ℕ, ◌<◌, ◌^◌, Bool, true, not, ◌&&◌, List, [], ◌∷◌, map, Some}
 use Rattle.std.specs.List.{list_all}
 use Rattle.elx_bits.specs.Words.{Word}
-use Rattle.elastic_ast.specs.declared.declarations.Field.{Field}
 use Rattle.elastic_ast.specs.Tree.{Name, PlainDecl, PlainState}
 use Rattle.elastic_ast.specs.Scope.{among}
 use Rattle.elastic_ast.specs.LookUps.{is_member, header_fields}

@@ -1,10 +1,8 @@
 -- Small programs and what their units are, for the equations that show what units are; this project's own.
-use Rattle.std.specs.Prelude.{ℕ, zero, suc, Bool, true, false, List, [], ◌∷◌, ◌++◌, map, Option, Some, None, codes}
-use Rattle.elastic_ast.specs.declared.declarations.Field.{Field}
+use Rattle.std.specs.Prelude.{ℕ, zero, suc, Bool, true, false, List, [], ◌∷◌, map, Option, Some, None, codes}
 use Rattle.elastic_ast.specs.declared.statements.Amount.TheVariants as amount
 use Rattle.elastic_ast.specs.declared.statements.Lval.{Lval}
 use Rattle.elastic_ast.specs.declared.statements.Lval.TheVariants as lval
-use Rattle.elastic_ast.specs.declared.statements.RegRef.{RegRef}
 use Rattle.elastic_ast.specs.declared.flat.Lit.{Lit}
 use Rattle.elastic_ast.specs.declared.flat.Cells.{Cells}
 use Rattle.elastic_ast.specs.declared.flat.Location.{Location}

@@ -8,78 +8,78 @@ use Rattle.p4_expr.proofs.Building.{sign_first, sign_last, reserved_first, word_
 
 pub sum_tree : SpellsExpr 0 (PlainExpr.Binary 13 (PlainExpr.Named (codes "a")) (PlainExpr.Binary 16 (PlainExpr.Named (codes "b")) (PlainExpr.Named (codes "c")))) product_in_sum
 sum_tree =
-  from_two 0 _ product_in_sum
-      (SpellsLevel.binary Plus _ _ _ is_plus
-      (SpellsLevel.stronger (SpellsLevel.stronger (one_name 0 (codes "a") _ refl refl)))
-      (sign_last (codes "+") 13 _ refl refl)
-      (SpellsLevel.binary Times _ _ _ is_times
-      (SpellsLevel.stronger (one_name 0 (codes "b") _ refl refl))
-      (sign_last (codes "*") 15 _ refl refl)
-      (one_name 0 (codes "c") _ refl refl)
-      refl)
-      refl)
+    from_two 0 _ product_in_sum
+    (SpellsLevel.binary Plus _ _ _ is_plus
+    (SpellsLevel.stronger (SpellsLevel.stronger (one_name 0 (codes "a") _ refl refl)))
+    (sign_last (codes "+") 13 _ refl refl)
+    (SpellsLevel.binary Times _ _ _ is_times
+    (SpellsLevel.stronger (one_name 0 (codes "b") _ refl refl))
+    (sign_last (codes "*") 15 _ refl refl)
+    (one_name 0 (codes "c") _ refl refl)
+    refl)
+    refl)
 
 pub differences_tree : SpellsExpr 0 (PlainExpr.Binary 14 (PlainExpr.Binary 14 (PlainExpr.Named (codes "a")) (PlainExpr.Named (codes "b"))) (PlainExpr.Named (codes "c"))) two_differences
 differences_tree =
-  from_two 0 _ two_differences
-      (SpellsLevel.binary Minus _ _ _ is_minus
-      (SpellsLevel.binary Minus _ _ _ is_minus
-      (SpellsLevel.stronger (SpellsLevel.stronger (one_name 0 (codes "a") _ refl refl)))
-      (sign_last (codes "-") 14 _ refl refl)
-      (SpellsLevel.stronger (one_name 0 (codes "b") _ refl refl))
-      refl)
-      (sign_last (codes "-") 14 _ refl refl)
-      (SpellsLevel.stronger (one_name 0 (codes "c") _ refl refl))
-      refl)
+    from_two 0 _ two_differences
+    (SpellsLevel.binary Minus _ _ _ is_minus
+    (SpellsLevel.binary Minus _ _ _ is_minus
+    (SpellsLevel.stronger (SpellsLevel.stronger (one_name 0 (codes "a") _ refl refl)))
+    (sign_last (codes "-") 14 _ refl refl)
+    (SpellsLevel.stronger (one_name 0 (codes "b") _ refl refl))
+    refl)
+    (sign_last (codes "-") 14 _ refl refl)
+    (SpellsLevel.stronger (one_name 0 (codes "c") _ refl refl))
+    refl)
 
 pub brackets_tree : SpellsExpr 1 (PlainExpr.Named (codes "a")) name_in_brackets
 brackets_tree =
-  from_none 1 _ name_in_brackets (SpellsLevel.prefixed (SpellsPrefixed.primary
-      (SpellsPrimary.bracketed _ _ _ (sign_last (codes "(") 2 _ refl refl) (from_none 0 _ _ (one_name 0 (codes "a") _ refl refl)) (sign_last (codes ")") 3 _ refl refl) refl)))
+    from_none 1 _ name_in_brackets (SpellsLevel.prefixed (SpellsPrefixed.primary
+    (SpellsPrimary.bracketed _ _ _ (sign_last (codes "(") 2 _ refl refl) (from_none 0 _ _ (one_name 0 (codes "a") _ refl refl)) (sign_last (codes ")") 3 _ refl refl) refl)))
 
 pub shift_tree : SpellsExpr 0 (PlainExpr.Binary 12 (PlainExpr.Named (codes "x")) (PlainExpr.Num None 2)) shift
 shift_tree =
-  from_three 0 _ shift
-      (SpellsLevel.binary ShiftDown _ _ _ is_shift_down
-      (SpellsLevel.stronger (SpellsLevel.stronger (SpellsLevel.stronger (one_name 0 (codes "x") _ refl refl))))
-      (touching _ _ refl refl refl refl refl)
-      (SpellsLevel.stronger (SpellsLevel.stronger (one_number 0 2 _ (lit< tt) refl)))
-      refl)
+    from_three 0 _ shift
+    (SpellsLevel.binary ShiftDown _ _ _ is_shift_down
+    (SpellsLevel.stronger (SpellsLevel.stronger (SpellsLevel.stronger (one_name 0 (codes "x") _ refl refl))))
+    (touching _ _ refl refl refl refl refl)
+    (SpellsLevel.stronger (SpellsLevel.stronger (one_number 0 2 _ (lit< tt) refl)))
+    refl)
 
 pub slice_tree : SpellsExpr 1 (PlainExpr.Slice (PlainExpr.Named (codes "h")) 7 4) four_bits
 slice_tree =
-  from_none 1 _ four_bits (SpellsLevel.prefixed (SpellsPrefixed.primary
-      (SpellsPrimary.slice _ _ (primary_name 1 (codes "h") _ refl refl) (
-        (lit< tt, lit< tt),
-        sign_first (codes "[") 4 _ _ refl refl
-            record {
-              front = _ ∷ _ ∷ _ ∷ [];
-              back = _ ∷ [];
-              joined = refl;
-              first = word_first _ _ refl (sign_first (codes ":") 9 _ _ refl refl (word_last _ refl));
-              second = sign_last (codes "]") 5 _ refl refl;
-            },
-      )
-      refl)))
+    from_none 1 _ four_bits (SpellsLevel.prefixed (SpellsPrefixed.primary
+    (SpellsPrimary.slice _ _ (primary_name 1 (codes "h") _ refl refl) (
+      (lit< tt, lit< tt),
+      sign_first (codes "[") 4 _ _ refl refl
+          record {
+            front = _ ∷ _ ∷ _ ∷ [];
+            back = _ ∷ [];
+            joined = refl;
+            first = word_first _ _ refl (sign_first (codes ":") 9 _ _ refl refl (word_last _ refl));
+            second = sign_last (codes "]") 5 _ refl refl;
+          },
+    )
+    refl)))
 
 pub cast_tree : SpellsExpr 1 (PlainExpr.Cast 8 (PlainExpr.Named (codes "x"))) byte_of_name
 cast_tree =
-  from_none 1 _ byte_of_name (SpellsLevel.prefixed
-      (SpellsPrefixed.cast (_ ∷ _ ∷ _ ∷ _ ∷ _ ∷ _ ∷ []) _
-      (sign_first (codes "(") 2 _ _ refl refl
-      record {
-        front = _ ∷ _ ∷ _ ∷ _ ∷ [];
-        back = _ ∷ [];
-        joined = refl;
-        first = (lit< tt, reserved_first (codes "bit") 1 _ _ refl refl (sign_first (codes "<") 6 _ _ refl refl (word_first _ _ refl (sign_last (codes ">") 7 _ refl refl))));
-        second = sign_last (codes ")") 3 _ refl refl;
-      })
-      (prefixed_name 1 (codes "x") _ refl refl)
-      refl))
+    from_none 1 _ byte_of_name (SpellsLevel.prefixed
+    (SpellsPrefixed.cast (_ ∷ _ ∷ _ ∷ _ ∷ _ ∷ _ ∷ []) _
+    (sign_first (codes "(") 2 _ _ refl refl
+    record {
+      front = _ ∷ _ ∷ _ ∷ _ ∷ [];
+      back = _ ∷ [];
+      joined = refl;
+      first = (lit< tt, reserved_first (codes "bit") 1 _ _ refl refl (sign_first (codes "<") 6 _ _ refl refl (word_first _ _ refl (sign_last (codes ">") 7 _ refl refl))));
+      second = sign_last (codes ")") 3 _ refl refl;
+    })
+    (prefixed_name 1 (codes "x") _ refl refl)
+    refl))
 
 pub prefixes_tree : SpellsExpr 0 (PlainExpr.Unary 17 (PlainExpr.Unary 18 (PlainExpr.Named (codes "x")))) two_prefixes
 prefixes_tree =
-  from_none 0 _ two_prefixes (SpellsLevel.prefixed
-      (SpellsPrefixed.unary Turn _ _ is_turn (sign_last (codes "~") 19 _ refl refl)
-      (SpellsPrefixed.unary Negate _ _ is_negate (sign_last (codes "!") 20 _ refl refl) (prefixed_name 0 (codes "x") _ refl refl) refl)
-      refl))
+    from_none 0 _ two_prefixes (SpellsLevel.prefixed
+    (SpellsPrefixed.unary Turn _ _ is_turn (sign_last (codes "~") 19 _ refl refl)
+    (SpellsPrefixed.unary Negate _ _ is_negate (sign_last (codes "!") 20 _ refl refl) (prefixed_name 0 (codes "x") _ refl refl) refl)
+    refl))

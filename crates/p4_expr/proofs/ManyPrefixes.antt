@@ -1,7 +1,6 @@
 -- A name behind so many prefixes has so many operators.
-use Rattle.std.proofs.Common.{◌≡◌, ℕ, zero, suc, ◌≤◌, List, codes, refl, arith}
+use Rattle.std.proofs.Common.{◌≡◌, ℕ, zero, suc, ◌≤◌, codes, refl, arith}
 use Rattle.elastic_ast.specs.Operators.{Turn}
-use Rattle.spelling.specs.Words.{Word}
 use Rattle.p4_expr.specs.Operators.{operators_in}
 use Rattle.p4_expr.specs.Expressions.{SpellsPrefixed, SpellsLevel, SpellsExpr, HasFewOperators}
 use Rattle.p4_expr.specs.Examples.{turned, turned_words}

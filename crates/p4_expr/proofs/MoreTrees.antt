@@ -9,94 +9,94 @@ use Rattle.p4_expr.proofs.Building.{sign_first, sign_last, reserved_first, name_
 
 pub shift_of_sum_tree : SpellsExpr 0 (PlainExpr.Binary 11 (PlainExpr.Named (codes "a")) (PlainExpr.Binary 13 (PlainExpr.Named (codes "b")) (PlainExpr.Named (codes "c")))) shift_of_sum
 shift_of_sum_tree =
-  lift 7
-      (SpellsLevel.binary ShiftUp _ _ _ is_shift_up
-      (lift 3 (one_name 0 (codes "a") _ refl refl))
-      (sign_last (codes "<<") 28 _ refl refl)
-      (SpellsLevel.binary Plus _ _ _ is_plus
-      (lift 2 (one_name 0 (codes "b") _ refl refl))
-      (sign_last (codes "+") 13 _ refl refl)
-      (lift 1 (one_name 0 (codes "c") _ refl refl))
-      refl)
-      refl)
+    lift 7
+    (SpellsLevel.binary ShiftUp _ _ _ is_shift_up
+    (lift 3 (one_name 0 (codes "a") _ refl refl))
+    (sign_last (codes "<<") 28 _ refl refl)
+    (SpellsLevel.binary Plus _ _ _ is_plus
+    (lift 2 (one_name 0 (codes "b") _ refl refl))
+    (sign_last (codes "+") 13 _ refl refl)
+    (lift 1 (one_name 0 (codes "c") _ refl refl))
+    refl)
+    refl)
 
 pub and_in_equation_tree : SpellsExpr 0 (PlainExpr.Binary 2 (PlainExpr.Named (codes "a")) (PlainExpr.Binary 10 (PlainExpr.Named (codes "b")) (PlainExpr.Named (codes "c")))) and_in_equation
 and_in_equation_tree =
-  lift 2
-      (SpellsLevel.binary Equal _ _ _ is_equal
-      (lift 8 (one_name 0 (codes "a") _ refl refl))
-      (sign_last (codes "==") 22 _ refl refl)
-      (lift 3
-      (SpellsLevel.binary BitAnd _ _ _ is_bit_and
-      (lift 4 (one_name 0 (codes "b") _ refl refl))
-      (sign_last (codes "&") 16 _ refl refl)
-      (lift 3 (one_name 0 (codes "c") _ refl refl))
-      refl))
-      refl)
+    lift 2
+    (SpellsLevel.binary Equal _ _ _ is_equal
+    (lift 8 (one_name 0 (codes "a") _ refl refl))
+    (sign_last (codes "==") 22 _ refl refl)
+    (lift 3
+    (SpellsLevel.binary BitAnd _ _ _ is_bit_and
+    (lift 4 (one_name 0 (codes "b") _ refl refl))
+    (sign_last (codes "&") 16 _ refl refl)
+    (lift 3 (one_name 0 (codes "c") _ refl refl))
+    refl))
+    refl)
 
 pub turned_slice_tree : SpellsExpr 1 (PlainExpr.Unary 17 (PlainExpr.Slice (PlainExpr.Named (codes "x")) 3 0)) turned_slice
 turned_slice_tree =
-  lift 10 (SpellsLevel.prefixed
-      (SpellsPrefixed.unary Turn _ _ is_turn (sign_last (codes "~") 19 _ refl refl)
-      (SpellsPrefixed.primary
-      (SpellsPrimary.slice _ _ (primary_name 1 (codes "x") _ refl refl) (
-        (lit< tt, lit< tt),
-        sign_first (codes "[") 4 _ _ refl refl
-            record {
-              front = _ ∷ _ ∷ _ ∷ [];
-              back = _ ∷ [];
-              joined = refl;
-              first = word_first _ _ refl (sign_first (codes ":") 9 _ _ refl refl (word_last _ refl));
-              second = sign_last (codes "]") 5 _ refl refl;
-            },
-      )
-      refl))
-      refl))
+    lift 10 (SpellsLevel.prefixed
+    (SpellsPrefixed.unary Turn _ _ is_turn (sign_last (codes "~") 19 _ refl refl)
+    (SpellsPrefixed.primary
+    (SpellsPrimary.slice _ _ (primary_name 1 (codes "x") _ refl refl) (
+      (lit< tt, lit< tt),
+      sign_first (codes "[") 4 _ _ refl refl
+          record {
+            front = _ ∷ _ ∷ _ ∷ [];
+            back = _ ∷ [];
+            joined = refl;
+            first = word_first _ _ refl (sign_first (codes ":") 9 _ _ refl refl (word_last _ refl));
+            second = sign_last (codes "]") 5 _ refl refl;
+          },
+    )
+    refl))
+    refl))
 
 pub byte_of_sum_tree : SpellsExpr 1 (PlainExpr.Cast 8 (PlainExpr.Binary 13 (PlainExpr.Named (codes "a")) (PlainExpr.Named (codes "b")))) byte_of_sum
 byte_of_sum_tree =
-  lift 10 (SpellsLevel.prefixed
-      (SpellsPrefixed.cast (_ ∷ _ ∷ _ ∷ _ ∷ _ ∷ _ ∷ []) _
-      (sign_first (codes "(") 2 _ _ refl refl
-      record {
-        front = _ ∷ _ ∷ _ ∷ _ ∷ [];
-        back = _ ∷ [];
-        joined = refl;
-        first = (lit< tt, reserved_first (codes "bit") 1 _ _ refl refl (sign_first (codes "<") 6 _ _ refl refl (word_first _ _ refl (sign_last (codes ">") 7 _ refl refl))));
-        second = sign_last (codes ")") 3 _ refl refl;
-      })
-      (SpellsPrefixed.primary
-      (SpellsPrimary.bracketed _ _ _ (sign_last (codes "(") 2 _ refl refl)
-      (lift 8
-      (SpellsLevel.binary Plus _ _ _ is_plus
-      (lift 2 (one_name 0 (codes "a") _ refl refl))
-      (sign_last (codes "+") 13 _ refl refl)
-      (lift 1 (one_name 0 (codes "b") _ refl refl))
-      refl))
-      (sign_last (codes ")") 3 _ refl refl)
-      refl))
-      refl))
+    lift 10 (SpellsLevel.prefixed
+    (SpellsPrefixed.cast (_ ∷ _ ∷ _ ∷ _ ∷ _ ∷ _ ∷ []) _
+    (sign_first (codes "(") 2 _ _ refl refl
+    record {
+      front = _ ∷ _ ∷ _ ∷ _ ∷ [];
+      back = _ ∷ [];
+      joined = refl;
+      first = (lit< tt, reserved_first (codes "bit") 1 _ _ refl refl (sign_first (codes "<") 6 _ _ refl refl (word_first _ _ refl (sign_last (codes ">") 7 _ refl refl))));
+      second = sign_last (codes ")") 3 _ refl refl;
+    })
+    (SpellsPrefixed.primary
+    (SpellsPrimary.bracketed _ _ _ (sign_last (codes "(") 2 _ refl refl)
+    (lift 8
+    (SpellsLevel.binary Plus _ _ _ is_plus
+    (lift 2 (one_name 0 (codes "a") _ refl refl))
+    (sign_last (codes "+") 13 _ refl refl)
+    (lift 1 (one_name 0 (codes "b") _ refl refl))
+    refl))
+    (sign_last (codes ")") 3 _ refl refl)
+    refl))
+    refl))
 
 pub hash_of_name_tree : SpellsExpr 1 (PlainExpr.Hash (amount.Named (codes "i")) (PlainExpr.Named (codes "x")) (amount.Num 7)) hash_of_name
 hash_of_name_tree =
-  from_none 1 _ hash_of_name (SpellsLevel.prefixed (SpellsPrefixed.primary
-      (SpellsPrimary.hash _ _ _ _ _ _
-      (name_last (codes "hash") _ refl refl)
-      (sign_last (codes "(") 2 _ refl refl)
-      (name_first (codes "i") _ _ refl refl (sign_last (codes ",") 10 _ refl refl))
-      (lift 10 (one_name 0 (codes "x") _ refl refl))
-      record { front = _ ∷ []; back = _ ∷ []; joined = refl; first = sign_last (codes ",") 10 _ refl refl; second = (lit< tt, word_last _ refl) }
-      (sign_last (codes ")") 3 _ refl refl)
-      refl)))
+    from_none 1 _ hash_of_name (SpellsLevel.prefixed (SpellsPrefixed.primary
+    (SpellsPrimary.hash _ _ _ _ _ _
+    (name_last (codes "hash") _ refl refl)
+    (sign_last (codes "(") 2 _ refl refl)
+    (name_first (codes "i") _ _ refl refl (sign_last (codes ",") 10 _ refl refl))
+    (lift 10 (one_name 0 (codes "x") _ refl refl))
+    record { front = _ ∷ []; back = _ ∷ []; joined = refl; first = sign_last (codes ",") 10 _ refl refl; second = (lit< tt, word_last _ refl) }
+    (sign_last (codes ")") 3 _ refl refl)
+    refl)))
 
 pub validity_tree : SpellsExpr 1 (PlainExpr.IsValid (codes "h")) validity
 validity_tree =
-  from_none 1 _ validity (SpellsLevel.prefixed (SpellsPrefixed.primary
-      (SpellsPrimary.is_valid
-      record {
-        front = _ ∷ _ ∷ _ ∷ [];
-        back = _ ∷ _ ∷ _ ∷ _ ∷ [];
-        joined = refl;
-        first = name_first (codes "hdr") _ _ refl refl (sign_first (codes ".") 11 _ _ refl refl (name_last (codes "h") _ refl refl));
-        second = sign_first (codes ".") 11 _ _ refl refl (name_first (codes "isValid") _ _ refl refl (sign_first (codes "(") 2 _ _ refl refl record { front = []; back = _ ∷ []; joined = refl; first = refl; second = sign_last (codes ")") 3 _ refl refl }));
-      })))
+    from_none 1 _ validity (SpellsLevel.prefixed (SpellsPrefixed.primary
+    (SpellsPrimary.is_valid
+    record {
+      front = _ ∷ _ ∷ _ ∷ [];
+      back = _ ∷ _ ∷ _ ∷ _ ∷ [];
+      joined = refl;
+      first = name_first (codes "hdr") _ _ refl refl (sign_first (codes ".") 11 _ _ refl refl (name_last (codes "h") _ refl refl));
+      second = sign_first (codes ".") 11 _ _ refl refl (name_first (codes "isValid") _ _ refl refl (sign_first (codes "(") 2 _ _ refl refl record { front = []; back = _ ∷ []; joined = refl; first = refl; second = sign_last (codes ")") 3 _ refl refl }));
+    })))

@@ -1,5 +1,5 @@
 -- So many conditions, each within the one before, need so great a depth and no greater one.
-use Rattle.std.proofs.Common.{◌≡◌, ℕ, zero, suc, ◌+◌, ◌-◌, ◌≤◌, max, Bool, true, false, List, [], ◌∷◌, ◌++◌, codes, refl, sym, subst, append-nil, append_assoc, None, arith, lit<, lit≤}
+use Rattle.std.proofs.Common.{◌≡◌, ℕ, zero, suc, ◌+◌, ◌-◌, ◌≤◌, max, Bool, true, false, List, [], ◌∷◌, ◌++◌, codes, refl, sym, subst, append-nil, append_assoc, None, arith, lit<}
 use Rattle.elastic_ast.specs.Tree.{PlainExpr, PlainStmt, PlainStmts}
 use Rattle.spelling.specs.Words.{Word}
 use Rattle.spelling.specs.Brackets.{most_open_from, most_open}

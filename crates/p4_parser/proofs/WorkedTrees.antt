@@ -161,10 +161,10 @@ worked_parser_spelled =
     (codes ")") 3 _ refl refl))) (sign_last (codes ";") 8 _ refl refl))))) refl) (reserved_first (codes "transition") 20 _ _
     refl refl (reserved_first (codes "select") 15 _ _ refl refl (cut (_ ∷ _ ∷ _ ∷ _ ∷ _ ∷ _ ∷ _ ∷ []) _ (sign_first (codes "(")
     2 _ _ refl refl (cut (_ ∷ _ ∷ _ ∷ _ ∷ _ ∷ []) _ (
-      (lift 10 (SpellsLevel.prefixed (SpellsPrefixed.primary
-          (SpellsPrimary.place (cut (_ ∷ _ ∷ _ ∷ []) _ (name_first (codes "hdr") _ _ refl refl (sign_first (codes ".") 11 _ _ refl
-          refl (name_last (codes "h") _ refl refl))) (sign_first (codes ".") 11 _ _ refl refl (name_last (codes "v") _ refl
-          refl)))))))
+    (lift 10 (SpellsLevel.prefixed (SpellsPrefixed.primary
+    (SpellsPrimary.place (cut (_ ∷ _ ∷ _ ∷ []) _ (name_first (codes "hdr") _ _ refl refl (sign_first (codes ".") 11 _ _ refl
+    refl (name_last (codes "h") _ refl refl))) (sign_first (codes ".") 11 _ _ refl refl (name_last (codes "v") _ refl
+    refl)))))))
     ) (sign_last (codes ")") 3 _ refl refl))) (sign_first (codes "{") 0 _ _ refl refl (cut (_ ∷ _ ∷ _ ∷ _ ∷
     _ ∷ _ ∷ _ ∷ _ ∷ _ ∷ _ ∷ _ ∷ _ ∷ _ ∷ _ ∷ []) _ (cut (_ ∷ _ ∷ _ ∷ _ ∷ _ ∷ _ ∷ []) _ (cut (_ ∷ _ ∷ _ ∷ []) _ (inl (cut (_ ∷
     []) _ ((tt, lit< tt), word_last _ refl) (sign_first (codes "&&&") 29 _ _ refl refl ((tt, lit< tt), word_last _ refl))))
@@ -236,13 +236,13 @@ worked_control_spelled =
     ".") 11 _ _ refl refl (name_first (codes "x") _ _ refl refl (sign_first (codes "[") 4 _ _ refl refl (cut (_ ∷ []) _
     (name_last (codes "i") _ refl refl) (sign_last (codes "]") 5 _ refl refl)))))) (sign_first (codes "=") 12 _ _ refl refl
     (cut (_ ∷ _ ∷ _ ∷ _ ∷ _ ∷ _ ∷ _ ∷ _ ∷ _ ∷ _ ∷ _ ∷ _ ∷ []) _ (
-      (lift 10 (SpellsLevel.prefixed (SpellsPrefixed.primary
-          (SpellsPrimary.hash (_ ∷ []) (_ ∷ []) (_ ∷ _ ∷ []) (_ ∷ _ ∷ _ ∷ _ ∷ _ ∷ []) (_ ∷ _ ∷ []) (_ ∷ []) (name_last (codes "hash")
-          _ refl refl) (sign_last (codes "(") 2 _ refl refl) (cut (_ ∷ []) _ (name_last (codes "i") _ refl refl) (sign_last (codes
-          ",") 10 _ refl refl)) (lift 10 (SpellsLevel.prefixed (SpellsPrefixed.primary (SpellsPrimary.place (cut (_ ∷ _ ∷ _ ∷ []) _
-          (name_first (codes "hdr") _ _ refl refl (sign_first (codes ".") 11 _ _ refl refl (name_last (codes "h") _ refl refl)))
-          (sign_first (codes ".") 11 _ _ refl refl (name_last (codes "v") _ refl refl))))))) (sign_first (codes ",") 10 _ _ refl refl
-          (name_last (codes "n") _ refl refl)) (sign_last (codes ")") 3 _ refl refl) refl))))
+    (lift 10 (SpellsLevel.prefixed (SpellsPrefixed.primary
+    (SpellsPrimary.hash (_ ∷ []) (_ ∷ []) (_ ∷ _ ∷ []) (_ ∷ _ ∷ _ ∷ _ ∷ _ ∷ []) (_ ∷ _ ∷ []) (_ ∷ []) (name_last (codes "hash")
+    _ refl refl) (sign_last (codes "(") 2 _ refl refl) (cut (_ ∷ []) _ (name_last (codes "i") _ refl refl) (sign_last (codes
+    ",") 10 _ refl refl)) (lift 10 (SpellsLevel.prefixed (SpellsPrefixed.primary (SpellsPrimary.place (cut (_ ∷ _ ∷ _ ∷ []) _
+    (name_first (codes "hdr") _ _ refl refl (sign_first (codes ".") 11 _ _ refl refl (name_last (codes "h") _ refl refl)))
+    (sign_first (codes ".") 11 _ _ refl refl (name_last (codes "v") _ refl refl))))))) (sign_first (codes ",") 10 _ _ refl refl
+    (name_last (codes "n") _ refl refl)) (sign_last (codes ")") 3 _ refl refl) refl))))
     ) (sign_last (codes ";") 8 _
     refl refl)))) (cut (_ ∷ _ ∷ _ ∷ _ ∷ _ ∷ _ ∷ _ ∷ _ ∷ _ ∷ _ ∷ _ ∷ _ ∷ _ ∷ _ ∷ _ ∷ _ ∷ _ ∷ []) _ (cut (_ ∷ _ ∷ _ ∷ _ ∷ _ ∷ _ ∷
     []) _ (name_first (codes "meta") _ _ refl refl (sign_first (codes ".") 11 _ _ refl refl (name_first (codes "x") _ _ refl
@@ -251,21 +251,21 @@ worked_control_spelled =
     (sign_first (codes "[") 4 _ _ refl refl (cut (_ ∷ []) _ (name_last (codes "i") _ refl refl) (sign_last (codes "]") 5 _ refl
     refl)))) (sign_first (codes ".") 11 _ _ refl refl (name_first (codes "read") _ _ refl refl (cut (_ ∷ _ ∷ _ ∷ []) _
     (sign_first (codes "(") 2 _ _ refl refl (cut (_ ∷ []) _ (
-      (lift 10 (SpellsLevel.prefixed (SpellsPrefixed.primary
-          (SpellsPrimary.name (name_last (codes "p") _ refl refl)))))
+    (lift 10 (SpellsLevel.prefixed (SpellsPrefixed.primary
+    (SpellsPrimary.name (name_last (codes "p") _ refl refl)))))
     ) (sign_last (codes ")") 3 _ refl refl))) (sign_last
     (codes ";") 8 _ refl refl))))))) (cut (_ ∷ _ ∷ _ ∷ _ ∷ _ ∷ _ ∷ _ ∷ _ ∷ _ ∷ _ ∷ _ ∷ _ ∷ _ ∷ _ ∷ _ ∷ _ ∷ _ ∷ []) _ (cut (_ ∷
     _ ∷ _ ∷ _ ∷ []) _ (name_first (codes "r") _ _ refl refl (sign_first (codes "[") 4 _ _ refl refl (cut (_ ∷ []) _ (name_last
     (codes "i") _ refl refl) (sign_last (codes "]") 5 _ refl refl)))) (sign_first (codes ".") 11 _ _ refl refl (name_first
     (codes "write") _ _ refl refl (cut (_ ∷ _ ∷ _ ∷ _ ∷ _ ∷ _ ∷ _ ∷ _ ∷ _ ∷ _ ∷ []) _ (sign_first (codes "(") 2 _ _ refl refl
     (cut (_ ∷ _ ∷ _ ∷ _ ∷ _ ∷ _ ∷ _ ∷ _ ∷ []) _ (cut (_ ∷ _ ∷ _ ∷ _ ∷ _ ∷ _ ∷ []) _ (
-      (lift 10 (SpellsLevel.prefixed
-          (SpellsPrefixed.primary (SpellsPrimary.place (name_first (codes "meta") _ _ refl refl (sign_first (codes ".") 11 _ _ refl
-          refl (name_first (codes "x") _ _ refl refl (sign_first (codes "[") 4 _ _ refl refl (cut (_ ∷ []) _ (name_last (codes "i") _
-          refl refl) (sign_last (codes "]") 5 _ refl refl))))))))))
+    (lift 10 (SpellsLevel.prefixed
+    (SpellsPrefixed.primary (SpellsPrimary.place (name_first (codes "meta") _ _ refl refl (sign_first (codes ".") 11 _ _ refl
+    refl (name_first (codes "x") _ _ refl refl (sign_first (codes "[") 4 _ _ refl refl (cut (_ ∷ []) _ (name_last (codes "i") _
+    refl refl) (sign_last (codes "]") 5 _ refl refl))))))))))
     ) (sign_first (codes ",") 10 _ _ refl refl (
-      (lift 10
-          (SpellsLevel.prefixed (SpellsPrefixed.primary (SpellsPrimary.number ((tt, lit< tt), word_last _ refl)))))
+    (lift 10
+    (SpellsLevel.prefixed (SpellsPrefixed.primary (SpellsPrimary.number ((tt, lit< tt), word_last _ refl)))))
     )))
     (sign_last (codes ")") 3 _ refl refl))) (sign_last (codes ";") 8 _ refl refl))))) (cut (_ ∷ _ ∷ _ ∷ _ ∷ _ ∷ _ ∷ _ ∷ _ ∷ [])
     _ (cut (_ ∷ _ ∷ _ ∷ []) _ (name_first (codes "hdr") _ _ refl refl (sign_first (codes ".") 11 _ _ refl refl (name_last
@@ -291,23 +291,23 @@ worked_control_spelled =
     ∷ _ ∷ _ ∷ _ ∷ _ ∷ []) _ (cut (_ ∷ _ ∷ _ ∷ _ ∷ _ ∷ []) _ (cut (_ ∷ _ ∷ _ ∷ []) _ (name_first (codes "hdr") _ _ refl refl
     (sign_first (codes ".") 11 _ _ refl refl (name_last (codes "h") _ refl refl))) (sign_first (codes ".") 11 _ _ refl refl
     (name_last (codes "v") _ refl refl))) (sign_first (codes "=") 12 _ _ refl refl (cut (_ ∷ []) _ (
-      (lift 10
-          (SpellsLevel.prefixed (SpellsPrefixed.primary (SpellsPrimary.name (name_last (codes "p") _ refl refl)))))
+    (lift 10
+    (SpellsLevel.prefixed (SpellsPrefixed.primary (SpellsPrimary.name (name_last (codes "p") _ refl refl)))))
     )
     (sign_last (codes ";") 8 _ refl refl)))) (cut (_ ∷ _ ∷ _ ∷ _ ∷ _ ∷ _ ∷ _ ∷ _ ∷ _ ∷ _ ∷ _ ∷ _ ∷ _ ∷ _ ∷ []) _ (cut (_ ∷ _ ∷
     _ ∷ []) _ (name_first (codes "meta") _ _ refl refl (sign_first (codes ".") 11 _ _ refl refl (name_first (codes "y") _ _
     refl refl refl))) (sign_first (codes "=") 12 _ _ refl refl (cut (_ ∷ _ ∷ _ ∷ _ ∷ _ ∷ _ ∷ _ ∷ _ ∷ _ ∷ []) _ (
-      (lift 4
-          (SpellsLevel.binary BitOr (_ ∷ _ ∷ _ ∷ []) (_ ∷ []) (_ ∷ _ ∷ _ ∷ _ ∷ _ ∷ []) record { coded = refl; level_is = refl } (lift
-          4 (SpellsLevel.binary Join (_ ∷ []) (_ ∷ []) (_ ∷ []) record { coded = refl; level_is = refl } (lift 2
-          (SpellsLevel.prefixed (SpellsPrefixed.primary (SpellsPrimary.name (name_last (codes "q") _ refl refl))))) (sign_last (codes
-          "++") 21 _ refl refl) (lift 1 (SpellsLevel.prefixed (SpellsPrefixed.primary (SpellsPrimary.name (name_last (codes "p") _
-          refl refl))))) refl)) (sign_last (codes "|") 17 _ refl refl) (SpellsLevel.binary BitXor (_ ∷ []) (_ ∷ []) (_ ∷ _ ∷ _ ∷ [])
-          record { coded = refl; level_is = refl } (lift 5 (SpellsLevel.prefixed (SpellsPrefixed.primary (SpellsPrimary.name
-          (name_last (codes "p") _ refl refl))))) (sign_last (codes "^") 18 _ refl refl) (SpellsLevel.binary BitAnd (_ ∷ []) (_ ∷ [])
-          (_ ∷ []) record { coded = refl; level_is = refl } (lift 4 (SpellsLevel.prefixed (SpellsPrefixed.primary (SpellsPrimary.name
-          (name_last (codes "p") _ refl refl))))) (sign_last (codes "&") 16 _ refl refl) (lift 3 (SpellsLevel.prefixed
-          (SpellsPrefixed.primary (SpellsPrimary.name (name_last (codes "p") _ refl refl))))) refl) refl) refl))
+    (lift 4
+    (SpellsLevel.binary BitOr (_ ∷ _ ∷ _ ∷ []) (_ ∷ []) (_ ∷ _ ∷ _ ∷ _ ∷ _ ∷ []) record { coded = refl; level_is = refl } (lift
+    4 (SpellsLevel.binary Join (_ ∷ []) (_ ∷ []) (_ ∷ []) record { coded = refl; level_is = refl } (lift 2
+    (SpellsLevel.prefixed (SpellsPrefixed.primary (SpellsPrimary.name (name_last (codes "q") _ refl refl))))) (sign_last (codes
+    "++") 21 _ refl refl) (lift 1 (SpellsLevel.prefixed (SpellsPrefixed.primary (SpellsPrimary.name (name_last (codes "p") _
+    refl refl))))) refl)) (sign_last (codes "|") 17 _ refl refl) (SpellsLevel.binary BitXor (_ ∷ []) (_ ∷ []) (_ ∷ _ ∷ _ ∷ [])
+    record { coded = refl; level_is = refl } (lift 5 (SpellsLevel.prefixed (SpellsPrefixed.primary (SpellsPrimary.name
+    (name_last (codes "p") _ refl refl))))) (sign_last (codes "^") 18 _ refl refl) (SpellsLevel.binary BitAnd (_ ∷ []) (_ ∷ [])
+    (_ ∷ []) record { coded = refl; level_is = refl } (lift 4 (SpellsLevel.prefixed (SpellsPrefixed.primary (SpellsPrimary.name
+    (name_last (codes "p") _ refl refl))))) (sign_last (codes "&") 16 _ refl refl) (lift 3 (SpellsLevel.prefixed
+    (SpellsPrefixed.primary (SpellsPrimary.name (name_last (codes "p") _ refl refl))))) refl) refl) refl))
     ) (sign_last
     (codes ";") 8 _ refl refl)))) (cut (_ ∷ _ ∷ _ ∷ _ ∷ _ ∷ _ ∷ _ ∷ _ ∷ []) _ (cut (_ ∷ _ ∷ _ ∷ []) _ (name_first (codes "hdr")
     _ _ refl refl (sign_first (codes ".") 11 _ _ refl refl (name_last (codes "h") _ refl refl))) (sign_first (codes ".") 11 _ _
@@ -420,20 +420,20 @@ worked_control_spelled =
     _ ∷ _ ∷ _ ∷ []) _ (SpellsStmt.called (name_first (codes "a") _ _ refl refl (cut (_ ∷ _ ∷ _ ∷ []) _ (sign_first (codes "[")
     4 _ _ refl refl (cut (_ ∷ []) _ (name_last (codes "i") _ refl refl) (sign_last (codes "]") 5 _ refl refl))) (cut (_ ∷ _ ∷ _
     ∷ []) _ (sign_first (codes "(") 2 _ _ refl refl (cut (_ ∷ []) _ (cut (_ ∷ []) _ (
-      (lift 10 (SpellsLevel.prefixed
-          (SpellsPrefixed.primary (SpellsPrimary.name (name_last (codes "c") _ refl refl)))))
+    (lift 10 (SpellsLevel.prefixed
+    (SpellsPrefixed.primary (SpellsPrimary.name (name_last (codes "c") _ refl refl)))))
     ) refl) (sign_last (codes ")")
     3 _ refl refl))) (sign_last (codes ";") 8 _ refl refl))))) SpellsStmts.no_more refl) (sign_last (codes "}") 1 _ refl refl)
     refl) (SpellsStmts.one_more {open_end = false} (_ ∷ _ ∷ _ ∷ _ ∷ _ ∷ _ ∷ _ ∷ _ ∷ _ ∷ _ ∷ _ ∷ _ ∷ _ ∷ _ ∷ _ ∷ _ ∷ _ ∷ _ ∷ _ ∷
     _ ∷ _ ∷ _ ∷ _ ∷ _ ∷ _ ∷ _ ∷ []) _ (SpellsStmt.with_else (_ ∷ _ ∷ _ ∷ _ ∷ _ ∷ _ ∷ _ ∷ _ ∷ _ ∷ _ ∷ _ ∷ []) (_ ∷ _ ∷ _ ∷ _ ∷ _
     ∷ _ ∷ []) (_ ∷ []) (_ ∷ _ ∷ _ ∷ _ ∷ _ ∷ _ ∷ _ ∷ _ ∷ []) (reserved_first (codes "if") 9 _ _ refl refl (sign_first (codes
     "(") 2 _ _ refl refl (cut (_ ∷ _ ∷ _ ∷ _ ∷ _ ∷ _ ∷ _ ∷ _ ∷ []) _ (
-      (lift 10 (SpellsLevel.prefixed (SpellsPrefixed.unary
-          Negate (_ ∷ []) (_ ∷ _ ∷ _ ∷ _ ∷ _ ∷ _ ∷ _ ∷ []) record { coded = refl; level_is = refl } (sign_last (codes "!") 20 _ refl
-          refl) (SpellsPrefixed.primary (SpellsPrimary.is_valid (cut (_ ∷ _ ∷ _ ∷ []) _ (name_first (codes "hdr") _ _ refl refl
-          (sign_first (codes ".") 11 _ _ refl refl (name_last (codes "h") _ refl refl))) (sign_first (codes ".") 11 _ _ refl refl
-          (name_first (codes "isValid") _ _ refl refl (sign_first (codes "(") 2 _ _ refl refl (cut ([]) _ refl (sign_last (codes ")")
-          3 _ refl refl)))))))) refl)))
+    (lift 10 (SpellsLevel.prefixed (SpellsPrefixed.unary
+    Negate (_ ∷ []) (_ ∷ _ ∷ _ ∷ _ ∷ _ ∷ _ ∷ _ ∷ []) record { coded = refl; level_is = refl } (sign_last (codes "!") 20 _ refl
+    refl) (SpellsPrefixed.primary (SpellsPrimary.is_valid (cut (_ ∷ _ ∷ _ ∷ []) _ (name_first (codes "hdr") _ _ refl refl
+    (sign_first (codes ".") 11 _ _ refl refl (name_last (codes "h") _ refl refl))) (sign_first (codes ".") 11 _ _ refl refl
+    (name_first (codes "isValid") _ _ refl refl (sign_first (codes "(") 2 _ _ refl refl (cut ([]) _ refl (sign_last (codes ")")
+    3 _ refl refl)))))))) refl)))
     ) (sign_last (codes ")") 3 _ refl refl)))) (SpellsBranch.alone refl
     (SpellsStmt.applied (name_first (codes "t") _ _ refl refl (sign_first (codes ".") 11 _ _ refl refl (name_first (codes
     "apply") _ _ refl refl (cut (_ ∷ _ ∷ []) _ (sign_first (codes "(") 2 _ _ refl refl (cut ([]) _ refl (sign_last (codes ")")
@@ -442,51 +442,51 @@ worked_control_spelled =
     (SpellsStmts.one_more {open_end = false} (_ ∷ _ ∷ _ ∷ _ ∷ _ ∷ _ ∷ []) _ (SpellsStmt.simple (cut (_ ∷ _ ∷ _ ∷ []) _
     (name_first (codes "std") _ _ refl refl (sign_first (codes ".") 11 _ _ refl refl (name_last (codes "drop") _ refl refl)))
     (sign_first (codes "=") 12 _ _ refl refl (cut (_ ∷ []) _ (
-      (lift 10 (SpellsLevel.prefixed (SpellsPrefixed.primary
-          (SpellsPrimary.number ((tt, lit< tt), word_last _ refl)))))
+    (lift 10 (SpellsLevel.prefixed (SpellsPrefixed.primary
+    (SpellsPrimary.number ((tt, lit< tt), word_last _ refl)))))
     ) (sign_last (codes ";") 8 _ refl refl)))))
     SpellsStmts.no_more refl) (sign_last (codes "}") 1 _ refl refl) refl) refl) (SpellsStmts.one_more {open_end = false} (_ ∷ _
     ∷ _ ∷ _ ∷ _ ∷ _ ∷ _ ∷ _ ∷ _ ∷ []) _ (SpellsStmt.block ([]) (_ ∷ []) (_ ∷ _ ∷ _ ∷ _ ∷ _ ∷ _ ∷ _ ∷ []) (_ ∷ []) refl
     (sign_last (codes "{") 0 _ refl refl) (SpellsStmts.one_more {open_end = false} (_ ∷ _ ∷ _ ∷ _ ∷ _ ∷ _ ∷ _ ∷ []) _
     (SpellsStmt.called (name_first (codes "b") _ _ refl refl (cut ([]) _ refl (cut (_ ∷ _ ∷ _ ∷ _ ∷ _ ∷ []) _ (sign_first
     (codes "(") 2 _ _ refl refl (cut (_ ∷ _ ∷ _ ∷ []) _ (cut (_ ∷ []) _ (
-      (lift 10 (SpellsLevel.prefixed (SpellsPrefixed.primary
-          (SpellsPrimary.number ((tt, lit< tt), word_last _ refl)))))
+    (lift 10 (SpellsLevel.prefixed (SpellsPrefixed.primary
+    (SpellsPrimary.number ((tt, lit< tt), word_last _ refl)))))
     ) (cut (_ ∷ _ ∷ []) _ (sign_first (codes ",") 10 _ _
     refl refl (
-      (lift 10 (SpellsLevel.prefixed (SpellsPrefixed.primary (SpellsPrimary.number (
-        (tt, lit< tt),
-        word_last _
-            refl,
-      )))))
+    (lift 10 (SpellsLevel.prefixed (SpellsPrefixed.primary (SpellsPrimary.number (
+      (tt, lit< tt),
+      word_last _
+          refl,
+    )))))
     )) refl)) (sign_last (codes ")") 3 _ refl refl))) (sign_last (codes ";") 8 _ refl refl)))))
     SpellsStmts.no_more refl) (sign_last (codes "}") 1 _ refl refl) refl) (SpellsStmts.one_more {open_end = true} (_ ∷ _ ∷ _ ∷
     _ ∷ _ ∷ _ ∷ _ ∷ _ ∷ _ ∷ _ ∷ _ ∷ _ ∷ _ ∷ _ ∷ _ ∷ _ ∷ _ ∷ _ ∷ _ ∷ _ ∷ []) _ (SpellsStmt.without_else {open_end = false} (_ ∷
     _ ∷ _ ∷ _ ∷ _ ∷ _ ∷ _ ∷ _ ∷ _ ∷ _ ∷ _ ∷ _ ∷ _ ∷ _ ∷ _ ∷ _ ∷ _ ∷ _ ∷ []) (_ ∷ _ ∷ []) (reserved_first (codes "if") 9 _ _
     refl refl (sign_first (codes "(") 2 _ _ refl refl (cut (_ ∷ _ ∷ _ ∷ _ ∷ _ ∷ _ ∷ _ ∷ _ ∷ _ ∷ _ ∷ _ ∷ _ ∷ _ ∷ _ ∷ _ ∷ []) _ (
-      (SpellsLevel.binary Or (_ ∷ []) (_ ∷ []) (_ ∷ _ ∷ _ ∷ _ ∷ _ ∷ _ ∷ _ ∷ _ ∷ _ ∷ _ ∷ _ ∷ _ ∷ _ ∷ []) record {
-        coded = refl;
-        level_is = refl;
-      } (lift 10 (SpellsLevel.prefixed (SpellsPrefixed.primary (SpellsPrimary.truth (reserved_last (codes "true")
-          21 _ refl refl))))) (sign_last (codes "||") 27 _ refl refl) (SpellsLevel.binary And (_ ∷ _ ∷ _ ∷ _ ∷ _ ∷ _ ∷ _ ∷ []) (_ ∷
-          []) (_ ∷ _ ∷ _ ∷ _ ∷ _ ∷ []) record { coded = refl; level_is = refl } (SpellsLevel.binary And (_ ∷ []) (_ ∷ []) (_ ∷ _ ∷ _
-          ∷ _ ∷ _ ∷ []) record { coded = refl; level_is = refl } (lift 9 (SpellsLevel.prefixed (SpellsPrefixed.primary
-          (SpellsPrimary.truth (reserved_last (codes "false") 6 _ refl refl))))) (sign_last (codes "&&") 26 _ refl refl)
-          (SpellsLevel.binary Differ (_ ∷ _ ∷ _ ∷ []) (_ ∷ []) (_ ∷ []) record { coded = refl; level_is = refl } (lift 8
-          (SpellsLevel.prefixed (SpellsPrefixed.primary (SpellsPrimary.place (name_first (codes "meta") _ _ refl refl (sign_first
-          (codes ".") 11 _ _ refl refl (name_first (codes "y") _ _ refl refl refl))))))) (sign_last (codes "!=") 23 _ refl refl)
-          (lift 7 (SpellsLevel.prefixed (SpellsPrefixed.primary (SpellsPrimary.number ((tt, lit< tt), word_last _ refl))))) refl)
-          refl) (sign_last (codes "&&") 26 _ refl refl) (lift 1 (SpellsLevel.binary AtMost (_ ∷ []) (_ ∷ []) (_ ∷ _ ∷ _ ∷ []) record
-          { coded = refl; level_is = refl } (lift 7 (SpellsLevel.prefixed (SpellsPrefixed.primary (SpellsPrimary.number (
-            (
-              tt,
-              lit<
-                  tt,
-            ),
-            word_last _ refl,
-          ))))) (sign_last (codes "<=") 24 _ refl refl) (lift 6 (SpellsLevel.prefixed (SpellsPrefixed.primary
-          (SpellsPrimary.place (name_first (codes "meta") _ _ refl refl (sign_first (codes ".") 11 _ _ refl refl (name_first (codes
-          "y") _ _ refl refl refl))))))) refl)) refl) refl)
+    (SpellsLevel.binary Or (_ ∷ []) (_ ∷ []) (_ ∷ _ ∷ _ ∷ _ ∷ _ ∷ _ ∷ _ ∷ _ ∷ _ ∷ _ ∷ _ ∷ _ ∷ _ ∷ []) record {
+      coded = refl;
+      level_is = refl;
+    } (lift 10 (SpellsLevel.prefixed (SpellsPrefixed.primary (SpellsPrimary.truth (reserved_last (codes "true")
+    21 _ refl refl))))) (sign_last (codes "||") 27 _ refl refl) (SpellsLevel.binary And (_ ∷ _ ∷ _ ∷ _ ∷ _ ∷ _ ∷ _ ∷ []) (_ ∷
+    []) (_ ∷ _ ∷ _ ∷ _ ∷ _ ∷ []) record { coded = refl; level_is = refl } (SpellsLevel.binary And (_ ∷ []) (_ ∷ []) (_ ∷ _ ∷ _
+    ∷ _ ∷ _ ∷ []) record { coded = refl; level_is = refl } (lift 9 (SpellsLevel.prefixed (SpellsPrefixed.primary
+    (SpellsPrimary.truth (reserved_last (codes "false") 6 _ refl refl))))) (sign_last (codes "&&") 26 _ refl refl)
+    (SpellsLevel.binary Differ (_ ∷ _ ∷ _ ∷ []) (_ ∷ []) (_ ∷ []) record { coded = refl; level_is = refl } (lift 8
+    (SpellsLevel.prefixed (SpellsPrefixed.primary (SpellsPrimary.place (name_first (codes "meta") _ _ refl refl (sign_first
+    (codes ".") 11 _ _ refl refl (name_first (codes "y") _ _ refl refl refl))))))) (sign_last (codes "!=") 23 _ refl refl)
+    (lift 7 (SpellsLevel.prefixed (SpellsPrefixed.primary (SpellsPrimary.number ((tt, lit< tt), word_last _ refl))))) refl)
+    refl) (sign_last (codes "&&") 26 _ refl refl) (lift 1 (SpellsLevel.binary AtMost (_ ∷ []) (_ ∷ []) (_ ∷ _ ∷ _ ∷ []) record
+    { coded = refl; level_is = refl } (lift 7 (SpellsLevel.prefixed (SpellsPrefixed.primary (SpellsPrimary.number (
+      (
+        tt,
+        lit<
+            tt,
+      ),
+      word_last _ refl,
+    ))))) (sign_last (codes "<=") 24 _ refl refl) (lift 6 (SpellsLevel.prefixed (SpellsPrefixed.primary
+    (SpellsPrimary.place (name_first (codes "meta") _ _ refl refl (sign_first (codes ".") 11 _ _ refl refl (name_first (codes
+    "y") _ _ refl refl refl))))))) refl)) refl) refl)
     ) (sign_last (codes ")") 3 _ refl refl))))
     (SpellsBranch.in_brackets (_ ∷ []) ([]) (_ ∷ []) (sign_last (codes "{") 0 _ refl refl) SpellsStmts.no_more (sign_last
     (codes "}") 1 _ refl refl) refl) refl) (SpellsStmts.one_more {open_end = true} (_ ∷ _ ∷ _ ∷ _ ∷ _ ∷ _ ∷ _ ∷ _ ∷ _ ∷ _ ∷ _ ∷
@@ -494,30 +494,30 @@ worked_control_spelled =
     (SpellsStmt.without_else {open_end = false} (_ ∷ _ ∷ _ ∷ _ ∷ _ ∷ _ ∷ _ ∷ _ ∷ _ ∷ _ ∷ _ ∷ _ ∷ _ ∷ _ ∷ _ ∷ _ ∷ []) (_ ∷ _ ∷ _
     ∷ _ ∷ _ ∷ _ ∷ _ ∷ _ ∷ _ ∷ _ ∷ _ ∷ _ ∷ _ ∷ _ ∷ _ ∷ _ ∷ _ ∷ _ ∷ _ ∷ []) (reserved_first (codes "if") 9 _ _ refl refl
     (sign_first (codes "(") 2 _ _ refl refl (cut (_ ∷ _ ∷ _ ∷ _ ∷ _ ∷ _ ∷ _ ∷ _ ∷ _ ∷ _ ∷ _ ∷ _ ∷ _ ∷ []) _ (
-      (SpellsLevel.binary Or (_ ∷ _ ∷ _ ∷ _ ∷ _ ∷ []) (_ ∷ []) (_ ∷ _ ∷ _ ∷ _ ∷ _ ∷ _ ∷ _ ∷ []) record {
-        coded = refl;
-        level_is
-            = refl;
-      } (lift 3 (SpellsLevel.binary AtLeast (_ ∷ _ ∷ _ ∷ []) (_ ∷ []) (_ ∷ []) record { coded = refl; level_is = refl }
-          (lift 7 (SpellsLevel.prefixed (SpellsPrefixed.primary (SpellsPrimary.place (name_first (codes "meta") _ _ refl refl
-          (sign_first (codes ".") 11 _ _ refl refl (name_first (codes "y") _ _ refl refl refl))))))) (sign_last (codes ">=") 25 _
-          refl refl) (lift 6 (SpellsLevel.prefixed (SpellsPrefixed.primary (SpellsPrimary.number (
-            (tt, lit< tt),
-            word_last _
-                refl,
-          ))))) refl)) (sign_last (codes "||") 27 _ refl refl) (lift 2 (SpellsLevel.binary Greater (_ ∷ _ ∷ _ ∷ []) (_ ∷ []) (_ ∷
-          _ ∷ _ ∷ []) record { coded = refl; level_is = refl } (lift 7 (SpellsLevel.prefixed (SpellsPrefixed.primary
-          (SpellsPrimary.place (name_first (codes "meta") _ _ refl refl (sign_first (codes ".") 11 _ _ refl refl (name_first (codes
-          "y") _ _ refl refl refl))))))) (sign_last (codes ">") 7 _ refl refl) (lift 6 (SpellsLevel.prefixed (SpellsPrefixed.primary
-          (SpellsPrimary.place (name_first (codes "meta") _ _ refl refl (sign_first (codes ".") 11 _ _ refl refl (name_first (codes
-          "y") _ _ refl refl refl))))))) refl)) refl)
+    (SpellsLevel.binary Or (_ ∷ _ ∷ _ ∷ _ ∷ _ ∷ []) (_ ∷ []) (_ ∷ _ ∷ _ ∷ _ ∷ _ ∷ _ ∷ _ ∷ []) record {
+      coded = refl;
+      level_is
+          = refl;
+    } (lift 3 (SpellsLevel.binary AtLeast (_ ∷ _ ∷ _ ∷ []) (_ ∷ []) (_ ∷ []) record { coded = refl; level_is = refl }
+    (lift 7 (SpellsLevel.prefixed (SpellsPrefixed.primary (SpellsPrimary.place (name_first (codes "meta") _ _ refl refl
+    (sign_first (codes ".") 11 _ _ refl refl (name_first (codes "y") _ _ refl refl refl))))))) (sign_last (codes ">=") 25 _
+    refl refl) (lift 6 (SpellsLevel.prefixed (SpellsPrefixed.primary (SpellsPrimary.number (
+      (tt, lit< tt),
+      word_last _
+          refl,
+    ))))) refl)) (sign_last (codes "||") 27 _ refl refl) (lift 2 (SpellsLevel.binary Greater (_ ∷ _ ∷ _ ∷ []) (_ ∷ []) (_ ∷
+    _ ∷ _ ∷ []) record { coded = refl; level_is = refl } (lift 7 (SpellsLevel.prefixed (SpellsPrefixed.primary
+    (SpellsPrimary.place (name_first (codes "meta") _ _ refl refl (sign_first (codes ".") 11 _ _ refl refl (name_first (codes
+    "y") _ _ refl refl refl))))))) (sign_last (codes ">") 7 _ refl refl) (lift 6 (SpellsLevel.prefixed (SpellsPrefixed.primary
+    (SpellsPrimary.place (name_first (codes "meta") _ _ refl refl (sign_first (codes ".") 11 _ _ refl refl (name_first (codes
+    "y") _ _ refl refl refl))))))) refl)) refl)
     ) (sign_last (codes ")") 3 _ refl refl)))) (SpellsBranch.alone refl
     (SpellsStmt.with_else (_ ∷ _ ∷ _ ∷ _ ∷ _ ∷ _ ∷ []) (_ ∷ _ ∷ _ ∷ _ ∷ _ ∷ _ ∷ []) (_ ∷ []) (_ ∷ _ ∷ _ ∷ _ ∷ _ ∷ _ ∷ [])
     (reserved_first (codes "if") 9 _ _ refl refl (sign_first (codes "(") 2 _ _ refl refl (cut (_ ∷ _ ∷ _ ∷ []) _ (
-      (lift 2
-          (SpellsLevel.binary Equal (_ ∷ []) (_ ∷ []) (_ ∷ []) record { coded = refl; level_is = refl } (lift 8 (SpellsLevel.prefixed
-          (SpellsPrefixed.primary (SpellsPrimary.name (name_last (codes "c") _ refl refl))))) (sign_last (codes "==") 22 _ refl refl)
-          (lift 7 (SpellsLevel.prefixed (SpellsPrefixed.primary (SpellsPrimary.number ((tt, lit< tt), word_last _ refl))))) refl))
+    (lift 2
+    (SpellsLevel.binary Equal (_ ∷ []) (_ ∷ []) (_ ∷ []) record { coded = refl; level_is = refl } (lift 8 (SpellsLevel.prefixed
+    (SpellsPrefixed.primary (SpellsPrimary.name (name_last (codes "c") _ refl refl))))) (sign_last (codes "==") 22 _ refl refl)
+    (lift 7 (SpellsLevel.prefixed (SpellsPrefixed.primary (SpellsPrimary.number ((tt, lit< tt), word_last _ refl))))) refl))
     ) (sign_last (codes ")") 3 _ refl refl)))) (SpellsBranch.alone refl (SpellsStmt.applied (name_first (codes "t") _ _
     refl refl (sign_first (codes ".") 11 _ _ refl refl (name_first (codes "apply") _ _ refl refl (cut (_ ∷ _ ∷ []) _
     (sign_first (codes "(") 2 _ _ refl refl (cut ([]) _ refl (sign_last (codes ")") 3 _ refl refl))) (sign_last (codes ";") 8 _
@@ -536,26 +536,26 @@ worked_control_spelled =
     ∷ _ ∷ _ ∷ _ ∷ _ ∷ _ ∷ _ ∷ _ ∷ _ ∷ _ ∷ _ ∷ []) _ (SpellsStmt.simple (cut (_ ∷ _ ∷ _ ∷ []) _ (name_first (codes "meta") _ _
     refl refl (sign_first (codes ".") 11 _ _ refl refl (name_first (codes "y") _ _ refl refl refl))) (sign_first (codes "=") 12
     _ _ refl refl (cut (_ ∷ _ ∷ _ ∷ _ ∷ _ ∷ _ ∷ _ ∷ _ ∷ _ ∷ _ ∷ _ ∷ _ ∷ _ ∷ _ ∷ _ ∷ _ ∷ _ ∷ _ ∷ _ ∷ _ ∷ _ ∷ []) _ (
-      (lift 7
-          (SpellsLevel.binary ShiftDown (_ ∷ _ ∷ _ ∷ _ ∷ _ ∷ _ ∷ _ ∷ _ ∷ _ ∷ _ ∷ _ ∷ _ ∷ _ ∷ _ ∷ _ ∷ _ ∷ _ ∷ _ ∷ []) (_ ∷ _ ∷ []) (_
-          ∷ []) record { coded = refl; level_is = refl } (lift 3 (SpellsLevel.prefixed (SpellsPrefixed.cast (_ ∷ _ ∷ _ ∷ _ ∷ _ ∷ _ ∷
-          []) (_ ∷ _ ∷ _ ∷ _ ∷ _ ∷ _ ∷ _ ∷ _ ∷ _ ∷ _ ∷ _ ∷ _ ∷ []) (sign_first (codes "(") 2 _ _ refl refl (cut (_ ∷ _ ∷ _ ∷ _ ∷ [])
-          _ (
-            lit< tt,
-            (reserved_first (codes "bit") 1 _ _ refl refl (sign_first (codes "<") 6 _ _ refl refl (word_first _ _ refl
-                (sign_last (codes ">") 7 _ refl refl)))),
-          ) (sign_last (codes ")") 3 _ refl refl))) (SpellsPrefixed.primary
-          (SpellsPrimary.bracketed (_ ∷ []) (_ ∷ _ ∷ _ ∷ _ ∷ _ ∷ _ ∷ _ ∷ _ ∷ _ ∷ _ ∷ []) (_ ∷ []) (sign_last (codes "(") 2 _ refl
-          refl) (lift 10 (SpellsLevel.prefixed (SpellsPrefixed.primary (SpellsPrimary.slice (_ ∷ _ ∷ _ ∷ _ ∷ _ ∷ []) (_ ∷ _ ∷ _ ∷ _ ∷
-          _ ∷ []) (SpellsPrimary.place (cut (_ ∷ _ ∷ _ ∷ []) _ (name_first (codes "hdr") _ _ refl refl (sign_first (codes ".") 11 _ _
-          refl refl (name_last (codes "h") _ refl refl))) (sign_first (codes ".") 11 _ _ refl refl (name_last (codes "v") _ refl
-          refl)))) (
-            (lit< tt, lit< tt),
-            (sign_first (codes "[") 4 _ _ refl refl (cut (_ ∷ _ ∷ _ ∷ []) _ (word_first _ _ refl
-                (sign_first (codes ":") 9 _ _ refl refl (word_last _ refl))) (sign_last (codes "]") 5 _ refl refl))),
-          ) refl)))) (sign_last
-          (codes ")") 3 _ refl refl) refl)) refl))) (touching _ _ refl refl refl refl refl) (lift 2 (SpellsLevel.prefixed
-          (SpellsPrefixed.primary (SpellsPrimary.number ((tt, lit< tt), word_last _ refl))))) refl))
+    (lift 7
+    (SpellsLevel.binary ShiftDown (_ ∷ _ ∷ _ ∷ _ ∷ _ ∷ _ ∷ _ ∷ _ ∷ _ ∷ _ ∷ _ ∷ _ ∷ _ ∷ _ ∷ _ ∷ _ ∷ _ ∷ _ ∷ []) (_ ∷ _ ∷ []) (_
+    ∷ []) record { coded = refl; level_is = refl } (lift 3 (SpellsLevel.prefixed (SpellsPrefixed.cast (_ ∷ _ ∷ _ ∷ _ ∷ _ ∷ _ ∷
+    []) (_ ∷ _ ∷ _ ∷ _ ∷ _ ∷ _ ∷ _ ∷ _ ∷ _ ∷ _ ∷ _ ∷ _ ∷ []) (sign_first (codes "(") 2 _ _ refl refl (cut (_ ∷ _ ∷ _ ∷ _ ∷ [])
+    _ (
+      lit< tt,
+      (reserved_first (codes "bit") 1 _ _ refl refl (sign_first (codes "<") 6 _ _ refl refl (word_first _ _ refl
+          (sign_last (codes ">") 7 _ refl refl)))),
+    ) (sign_last (codes ")") 3 _ refl refl))) (SpellsPrefixed.primary
+    (SpellsPrimary.bracketed (_ ∷ []) (_ ∷ _ ∷ _ ∷ _ ∷ _ ∷ _ ∷ _ ∷ _ ∷ _ ∷ _ ∷ []) (_ ∷ []) (sign_last (codes "(") 2 _ refl
+    refl) (lift 10 (SpellsLevel.prefixed (SpellsPrefixed.primary (SpellsPrimary.slice (_ ∷ _ ∷ _ ∷ _ ∷ _ ∷ []) (_ ∷ _ ∷ _ ∷ _ ∷
+    _ ∷ []) (SpellsPrimary.place (cut (_ ∷ _ ∷ _ ∷ []) _ (name_first (codes "hdr") _ _ refl refl (sign_first (codes ".") 11 _ _
+    refl refl (name_last (codes "h") _ refl refl))) (sign_first (codes ".") 11 _ _ refl refl (name_last (codes "v") _ refl
+    refl)))) (
+      (lit< tt, lit< tt),
+      (sign_first (codes "[") 4 _ _ refl refl (cut (_ ∷ _ ∷ _ ∷ []) _ (word_first _ _ refl
+          (sign_first (codes ":") 9 _ _ refl refl (word_last _ refl))) (sign_last (codes "]") 5 _ refl refl))),
+    ) refl)))) (sign_last
+    (codes ")") 3 _ refl refl) refl)) refl))) (touching _ _ refl refl refl refl refl) (lift 2 (SpellsLevel.prefixed
+    (SpellsPrefixed.primary (SpellsPrimary.number ((tt, lit< tt), word_last _ refl))))) refl))
     ) (sign_last (codes ";")
     8 _ refl refl))))) SpellsStmts.no_more refl) (sign_last (codes "}") 1 _ refl refl) refl) SpellsStmts.no_more refl) refl)
     refl) refl) refl) refl) (sign_last (codes "}") 1 _ refl refl))))) (sign_last (codes "}") 1 _ refl refl)))))) refl)
