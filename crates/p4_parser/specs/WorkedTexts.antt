@@ -1,5 +1,5 @@
--- Texts of declarations with their tokens, and the tree of each, written apart from the grammar; with
--- `Examples` they use every alternative; this project's own.
+-- Texts of declarations with their tokens, and the tree of each, written apart from the grammar; together with `Examples` and
+-- the examples of p4_expr they use every alternative. This project's own.
 use Rattle.std.specs.Prelude.{List, [], ◌∷◌, ◌++◌, true, false, None, Some, codes}
 use Rattle.p4_lexer.specs.declared.token.Kind.TheVariants as kind
 use Rattle.elastic_ast.specs.declared.statements.Amount.TheVariants as amount
@@ -14,9 +14,9 @@ abbrev pub worked_declarations : List Word
 worked_declarations =
     words
     (codes "#include <core.p4> #include <pisa.p4> symbolic int n; assume(n >= 1 && 2 * n + 1 < 9 && n <= 8 && 0 " ++
-    codes "- n == 0 - n && 9 > n); maximize(n - table(n) { 0: 0, 4: 9 } + 2 * n); const bit<8> c = 8w5; header " ++
-    codes "h_t { bit<8> v; } struct headers_t { h_t h; } struct meta_t { bit<8>[n] x; bit<16> y; } " ++
-    codes "Register<bit<32>>(n)[n] r;")
+    codes "- n == 0 - n && 9 > n); maximize(n - table(n) { 0: 0, 4: 9 } + 2 * n); const bit<8> c = 8w5; const " ++
+    codes "bit<8> d = 5; header h_t { bit<8> v; } struct headers_t { h_t h; } struct meta_t { bit<8>[n] x; " ++
+    codes "bit<16> y; } Register<bit<32>>(n)[n] r;")
     (
     record { kind = kind.Include 0; at = 0; end = 18 } ∷ record { kind = kind.Include 1; at = 19; end = 37 } ∷ reserved 18 38
     46 ∷ reserved 12 47 50 ∷ named 51 52 ∷ signed 8 52 53 ∷ named 54 60 ∷ signed 2 60 61 ∷ named 61 62 ∷ signed 25 63 65 ∷
@@ -33,15 +33,16 @@ worked_declarations =
           8) 5;
       at = 188;
       end = 191;
-    } ∷ signed 8 191 192 ∷ reserved 8 193 199 ∷ named 200 203 ∷ signed 0 204 205 ∷ reserved 1 206 209
-    ∷ signed 6 209 210 ∷ numbered 8 210 211 ∷ signed 7 211 212 ∷ named 213 214 ∷ signed 8 214 215 ∷ signed 1 216 217 ∷ reserved
-    17 218 224 ∷ named 225 234 ∷ signed 0 235 236 ∷ named 237 240 ∷ named 241 242 ∷ signed 8 242 243 ∷ signed 1 244 245 ∷
-    reserved 17 246 252 ∷ named 253 259 ∷ signed 0 260 261 ∷ reserved 1 262 265 ∷ signed 6 265 266 ∷ numbered 8 266 267 ∷
-    signed 7 267 268 ∷ signed 4 268 269 ∷ named 269 270 ∷ signed 5 270 271 ∷ named 272 273 ∷ signed 8 273 274 ∷ reserved 1 275
-    278 ∷ signed 6 278 279 ∷ numbered 16 279 281 ∷ signed 7 281 282 ∷ named 283 284 ∷ signed 8 284 285 ∷ signed 1 286 287 ∷
-    named 288 296 ∷ signed 6 296 297 ∷ reserved 1 297 300 ∷ signed 6 300 301 ∷ numbered 32 301 303 ∷ signed 7 303 304 ∷ signed
-    7 304 305 ∷ signed 2 305 306 ∷ named 306 307 ∷ signed 3 307 308 ∷ signed 4 308 309 ∷ named 309 310 ∷ signed 5 310 311 ∷
-    named 312 313 ∷ signed 8 313 314 ∷ [])
+    } ∷ signed 8 191 192 ∷ reserved 2 193 198 ∷ reserved 1 199 202 ∷ signed 6 202 203 ∷ numbered 8
+    203 204 ∷ signed 7 204 205 ∷ named 206 207 ∷ signed 12 208 209 ∷ numbered 5 210 211 ∷ signed 8 211 212 ∷ reserved 8 213 219
+    ∷ named 220 223 ∷ signed 0 224 225 ∷ reserved 1 226 229 ∷ signed 6 229 230 ∷ numbered 8 230 231 ∷ signed 7 231 232 ∷ named
+    233 234 ∷ signed 8 234 235 ∷ signed 1 236 237 ∷ reserved 17 238 244 ∷ named 245 254 ∷ signed 0 255 256 ∷ named 257 260 ∷
+    named 261 262 ∷ signed 8 262 263 ∷ signed 1 264 265 ∷ reserved 17 266 272 ∷ named 273 279 ∷ signed 0 280 281 ∷ reserved 1
+    282 285 ∷ signed 6 285 286 ∷ numbered 8 286 287 ∷ signed 7 287 288 ∷ signed 4 288 289 ∷ named 289 290 ∷ signed 5 290 291 ∷
+    named 292 293 ∷ signed 8 293 294 ∷ reserved 1 295 298 ∷ signed 6 298 299 ∷ numbered 16 299 301 ∷ signed 7 301 302 ∷ named
+    303 304 ∷ signed 8 304 305 ∷ signed 1 306 307 ∷ named 308 316 ∷ signed 6 316 317 ∷ reserved 1 317 320 ∷ signed 6 320 321 ∷
+    numbered 32 321 323 ∷ signed 7 323 324 ∷ signed 7 324 325 ∷ signed 2 325 326 ∷ named 326 327 ∷ signed 3 327 328 ∷ signed 4
+    328 329 ∷ named 329 330 ∷ signed 5 330 331 ∷ named 332 333 ∷ signed 8 333 334 ∷ [])
 
 abbrev pub worked_declarations_tree : PlainProgram
 worked_declarations_tree =
@@ -102,6 +103,7 @@ worked_declarations_tree =
     )
     ) ∷
     (PlainDecl.Const (codes "c") 8 5) ∷
+    (PlainDecl.Const (codes "d") 8 5) ∷
     (PlainDecl.Header (codes "h_t") (record { name = (codes "v"); width = 8; size = None } ∷ [])) ∷
     (PlainDecl.Headers (((codes "h_t"), (codes "h")) ∷ [])) ∷
     (
@@ -161,12 +163,13 @@ worked_control =
     (codes "control C(inout headers_t hdr, inout meta_t meta, inout std_t std) { action a[int i](bit<8> p) { " ++
     codes "meta.x[i] = hash(i, hdr.h.v, n); meta.x[i] = r[i].read(p); r[i].write(meta.x[i], 1); " ++
     codes "hdr.h.setInvalid(); } action b(bit<8> p, bit<4> q) { hdr.h.v = p; meta.y = q ++ p | p ^ p & p; " ++
-    codes "hdr.h.setValid(); } table u { actions = { NoAction; } const entries = { 5: NoAction(); } " ++
-    codes "default_action = b(1, c); } table t { key = { hdr.h.v: ternary; std.in_port: exact; } actions = { " ++
-    codes "b; NoAction; } const entries = { (5 &&& 15, _): b(8w1); } const default_action = NoAction(); size = " ++
-    codes "4; } apply { for (i < n) { a[i](c); } if (!hdr.h.isValid()) t.apply(); else { std.drop = 1; } { " ++
-    codes "b(1, 2); } if (true || false && meta.y != 1 && 1 <= meta.y) { } if (meta.y >= 1 || meta.y > meta.y) " ++
-    codes "if (c == 0) t.apply(); else u.apply(); @stage(0) { meta.y = (bit<16>)(hdr.h.v[3:0]) >> 2; } } }")
+    codes "hdr.h.setValid(); meta.y = s.read(8w3); } table u { actions = { NoAction; } const entries = { 5: " ++
+    codes "NoAction(); } default_action = b(1, c); } table t { key = { hdr.h.v: ternary; std.in_port: exact; } " ++
+    codes "actions = { b; NoAction; } const entries = { (5 &&& 15, _): b(8w1); } const default_action = " ++
+    codes "NoAction(); size = 4; } apply { for (i < n) { a[i](c); } if (!hdr.h.isValid()) t.apply(); else { " ++
+    codes "std.drop = 1; } { b(1, 2); } if (c < 2) { } if (true || false && meta.y != 1 && 1 <= meta.y) { } if " ++
+    codes "(meta.y >= 1 || meta.y > meta.y) if (c == 0) t.apply(); else u.apply(); @stage(0) { meta.y = " ++
+    codes "(bit<16>)(hdr.h.v[3:0]) >> 2; } } }")
     (
     reserved 3 0 7 ∷ named 8 9 ∷ signed 2 9 10 ∷ reserved 11 10 15 ∷ named 16 25 ∷ named 26 29 ∷ signed 10 29 30 ∷ reserved 11
     31 36 ∷ named 37 43 ∷ named 44 48 ∷ signed 10 48 49 ∷ reserved 11 50 55 ∷ named 56 61 ∷ named 62 65 ∷ signed 3 65 66 ∷
@@ -188,46 +191,53 @@ worked_control =
     signed 8 246 247 ∷ named 248 252 ∷ signed 11 252 253 ∷ named 253 254 ∷ signed 12 255 256 ∷ named 257 258 ∷ signed 21 259
     261 ∷ named 262 263 ∷ signed 17 264 265 ∷ named 266 267 ∷ signed 18 268 269 ∷ named 270 271 ∷ signed 16 272 273 ∷ named 274
     275 ∷ signed 8 275 276 ∷ named 277 280 ∷ signed 11 280 281 ∷ named 281 282 ∷ signed 11 282 283 ∷ named 283 291 ∷ signed 2
-    291 292 ∷ signed 3 292 293 ∷ signed 8 293 294 ∷ signed 1 295 296 ∷ reserved 19 297 302 ∷ named 303 304 ∷ signed 0 305 306 ∷
-    named 307 314 ∷ signed 12 315 316 ∷ signed 0 317 318 ∷ named 319 327 ∷ signed 8 327 328 ∷ signed 1 329 330 ∷ reserved 2 331
-    336 ∷ named 337 344 ∷ signed 12 345 346 ∷ signed 0 347 348 ∷ numbered 5 349 350 ∷ signed 9 350 351 ∷ named 352 360 ∷ signed
-    2 360 361 ∷ signed 3 361 362 ∷ signed 8 362 363 ∷ signed 1 364 365 ∷ named 366 380 ∷ signed 12 381 382 ∷ named 383 384 ∷
-    signed 2 384 385 ∷ numbered 1 385 386 ∷ signed 10 386 387 ∷ named 388 389 ∷ signed 3 389 390 ∷ signed 8 390 391 ∷ signed 1
-    392 393 ∷ reserved 19 394 399 ∷ named 400 401 ∷ signed 0 402 403 ∷ named 404 407 ∷ signed 12 408 409 ∷ signed 0 410 411 ∷
-    named 412 415 ∷ signed 11 415 416 ∷ named 416 417 ∷ signed 11 417 418 ∷ named 418 419 ∷ signed 9 419 420 ∷ named 421 428 ∷
-    signed 8 428 429 ∷ named 430 433 ∷ signed 11 433 434 ∷ named 434 441 ∷ signed 9 441 442 ∷ named 443 448 ∷ signed 8 448 449
-    ∷ signed 1 450 451 ∷ named 452 459 ∷ signed 12 460 461 ∷ signed 0 462 463 ∷ named 464 465 ∷ signed 8 465 466 ∷ named 467
-    475 ∷ signed 8 475 476 ∷ signed 1 477 478 ∷ reserved 2 479 484 ∷ named 485 492 ∷ signed 12 493 494 ∷ signed 0 495 496 ∷
-    signed 2 497 498 ∷ numbered 5 498 499 ∷ signed 29 500 503 ∷ numbered 15 504 506 ∷ signed 10 506 507 ∷ reserved 22 508 509 ∷
-    signed 3 509 510 ∷ signed 9 510 511 ∷ named 512 513 ∷ signed 2 513 514 ∷ record {
+    291 292 ∷ signed 3 292 293 ∷ signed 8 293 294 ∷ named 295 299 ∷ signed 11 299 300 ∷ named 300 301 ∷ signed 12 302 303 ∷
+    named 304 305 ∷ signed 11 305 306 ∷ named 306 310 ∷ signed 2 310 311 ∷ record {
+      kind = kind.Number (Some 8) 3;
+      at = 311;
+      end = 314;
+    } ∷ signed 3 314 315 ∷ signed 8 315 316 ∷ signed 1 317 318 ∷ reserved 19 319 324 ∷ named 325 326 ∷ signed 0 327
+    328 ∷ named 329 336 ∷ signed 12 337 338 ∷ signed 0 339 340 ∷ named 341 349 ∷ signed 8 349 350 ∷ signed 1 351 352 ∷ reserved
+    2 353 358 ∷ named 359 366 ∷ signed 12 367 368 ∷ signed 0 369 370 ∷ numbered 5 371 372 ∷ signed 9 372 373 ∷ named 374 382 ∷
+    signed 2 382 383 ∷ signed 3 383 384 ∷ signed 8 384 385 ∷ signed 1 386 387 ∷ named 388 402 ∷ signed 12 403 404 ∷ named 405
+    406 ∷ signed 2 406 407 ∷ numbered 1 407 408 ∷ signed 10 408 409 ∷ named 410 411 ∷ signed 3 411 412 ∷ signed 8 412 413 ∷
+    signed 1 414 415 ∷ reserved 19 416 421 ∷ named 422 423 ∷ signed 0 424 425 ∷ named 426 429 ∷ signed 12 430 431 ∷ signed 0
+    432 433 ∷ named 434 437 ∷ signed 11 437 438 ∷ named 438 439 ∷ signed 11 439 440 ∷ named 440 441 ∷ signed 9 441 442 ∷ named
+    443 450 ∷ signed 8 450 451 ∷ named 452 455 ∷ signed 11 455 456 ∷ named 456 463 ∷ signed 9 463 464 ∷ named 465 470 ∷ signed
+    8 470 471 ∷ signed 1 472 473 ∷ named 474 481 ∷ signed 12 482 483 ∷ signed 0 484 485 ∷ named 486 487 ∷ signed 8 487 488 ∷
+    named 489 497 ∷ signed 8 497 498 ∷ signed 1 499 500 ∷ reserved 2 501 506 ∷ named 507 514 ∷ signed 12 515 516 ∷ signed 0 517
+    518 ∷ signed 2 519 520 ∷ numbered 5 520 521 ∷ signed 29 522 525 ∷ numbered 15 526 528 ∷ signed 10 528 529 ∷ reserved 22 530
+    531 ∷ signed 3 531 532 ∷ signed 9 532 533 ∷ named 534 535 ∷ signed 2 535 536 ∷ record {
       kind = kind.Number (Some 8) 1;
-      at = 514;
-      end = 517;
-    } ∷ signed 3 517 518 ∷ signed 8 518 519 ∷ signed 1 520 521 ∷ reserved 2 522 527 ∷ named 528 542 ∷ signed 12 543
-    544 ∷ named 545 553 ∷ signed 2 553 554 ∷ signed 3 554 555 ∷ signed 8 555 556 ∷ named 557 561 ∷ signed 12 562 563 ∷ numbered
-    4 564 565 ∷ signed 8 565 566 ∷ signed 1 567 568 ∷ named 569 574 ∷ signed 0 575 576 ∷ reserved 7 577 580 ∷ signed 2 581 582
-    ∷ named 582 583 ∷ signed 6 584 585 ∷ named 586 587 ∷ signed 3 587 588 ∷ signed 0 589 590 ∷ named 591 592 ∷ signed 4 592 593
-    ∷ named 593 594 ∷ signed 5 594 595 ∷ signed 2 595 596 ∷ named 596 597 ∷ signed 3 597 598 ∷ signed 8 598 599 ∷ signed 1 600
-    601 ∷ reserved 9 602 604 ∷ signed 2 605 606 ∷ signed 20 606 607 ∷ named 607 610 ∷ signed 11 610 611 ∷ named 611 612 ∷
-    signed 11 612 613 ∷ named 613 620 ∷ signed 2 620 621 ∷ signed 3 621 622 ∷ signed 3 622 623 ∷ named 624 625 ∷ signed 11 625
-    626 ∷ named 626 631 ∷ signed 2 631 632 ∷ signed 3 632 633 ∷ signed 8 633 634 ∷ reserved 5 635 639 ∷ signed 0 640 641 ∷
-    named 642 645 ∷ signed 11 645 646 ∷ named 646 650 ∷ signed 12 651 652 ∷ numbered 1 653 654 ∷ signed 8 654 655 ∷ signed 1
-    656 657 ∷ signed 0 658 659 ∷ named 660 661 ∷ signed 2 661 662 ∷ numbered 1 662 663 ∷ signed 10 663 664 ∷ numbered 2 665 666
-    ∷ signed 3 666 667 ∷ signed 8 667 668 ∷ signed 1 669 670 ∷ reserved 9 671 673 ∷ signed 2 674 675 ∷ reserved 21 675 679 ∷
-    signed 27 680 682 ∷ reserved 6 683 688 ∷ signed 26 689 691 ∷ named 692 696 ∷ signed 11 696 697 ∷ named 697 698 ∷ signed 23
-    699 701 ∷ numbered 1 702 703 ∷ signed 26 704 706 ∷ numbered 1 707 708 ∷ signed 24 709 711 ∷ named 712 716 ∷ signed 11 716
-    717 ∷ named 717 718 ∷ signed 3 718 719 ∷ signed 0 720 721 ∷ signed 1 722 723 ∷ reserved 9 724 726 ∷ signed 2 727 728 ∷
-    named 728 732 ∷ signed 11 732 733 ∷ named 733 734 ∷ signed 25 735 737 ∷ numbered 1 738 739 ∷ signed 27 740 742 ∷ named 743
-    747 ∷ signed 11 747 748 ∷ named 748 749 ∷ signed 7 750 751 ∷ named 752 756 ∷ signed 11 756 757 ∷ named 757 758 ∷ signed 3
-    758 759 ∷ reserved 9 760 762 ∷ signed 2 763 764 ∷ named 764 765 ∷ signed 22 766 768 ∷ numbered 0 769 770 ∷ signed 3 770 771
-    ∷ named 772 773 ∷ signed 11 773 774 ∷ named 774 779 ∷ signed 2 779 780 ∷ signed 3 780 781 ∷ signed 8 781 782 ∷ reserved 5
-    783 787 ∷ named 788 789 ∷ signed 11 789 790 ∷ named 790 795 ∷ signed 2 795 796 ∷ signed 3 796 797 ∷ signed 8 797 798 ∷
-    signed 30 799 800 ∷ named 800 805 ∷ signed 2 805 806 ∷ numbered 0 806 807 ∷ signed 3 807 808 ∷ signed 0 809 810 ∷ named 811
-    815 ∷ signed 11 815 816 ∷ named 816 817 ∷ signed 12 818 819 ∷ signed 2 820 821 ∷ reserved 1 821 824 ∷ signed 6 824 825 ∷
-    numbered 16 825 827 ∷ signed 7 827 828 ∷ signed 3 828 829 ∷ signed 2 829 830 ∷ named 830 833 ∷ signed 11 833 834 ∷ named
-    834 835 ∷ signed 11 835 836 ∷ named 836 837 ∷ signed 4 837 838 ∷ numbered 3 838 839 ∷ signed 9 839 840 ∷ numbered 0 840 841
-    ∷ signed 5 841 842 ∷ signed 3 842 843 ∷ signed 7 844 845 ∷ signed 7 845 846 ∷ numbered 2 847 848 ∷ signed 8 848 849 ∷
-    signed 1 850 851 ∷ signed 1 852 853 ∷ signed 1 854 855 ∷ [])
+      at =
+          536;
+      end = 539;
+    } ∷ signed 3 539 540 ∷ signed 8 540 541 ∷ signed 1 542 543 ∷ reserved 2 544 549 ∷ named 550 564 ∷ signed 12
+    565 566 ∷ named 567 575 ∷ signed 2 575 576 ∷ signed 3 576 577 ∷ signed 8 577 578 ∷ named 579 583 ∷ signed 12 584 585 ∷
+    numbered 4 586 587 ∷ signed 8 587 588 ∷ signed 1 589 590 ∷ named 591 596 ∷ signed 0 597 598 ∷ reserved 7 599 602 ∷ signed 2
+    603 604 ∷ named 604 605 ∷ signed 6 606 607 ∷ named 608 609 ∷ signed 3 609 610 ∷ signed 0 611 612 ∷ named 613 614 ∷ signed 4
+    614 615 ∷ named 615 616 ∷ signed 5 616 617 ∷ signed 2 617 618 ∷ named 618 619 ∷ signed 3 619 620 ∷ signed 8 620 621 ∷
+    signed 1 622 623 ∷ reserved 9 624 626 ∷ signed 2 627 628 ∷ signed 20 628 629 ∷ named 629 632 ∷ signed 11 632 633 ∷ named
+    633 634 ∷ signed 11 634 635 ∷ named 635 642 ∷ signed 2 642 643 ∷ signed 3 643 644 ∷ signed 3 644 645 ∷ named 646 647 ∷
+    signed 11 647 648 ∷ named 648 653 ∷ signed 2 653 654 ∷ signed 3 654 655 ∷ signed 8 655 656 ∷ reserved 5 657 661 ∷ signed 0
+    662 663 ∷ named 664 667 ∷ signed 11 667 668 ∷ named 668 672 ∷ signed 12 673 674 ∷ numbered 1 675 676 ∷ signed 8 676 677 ∷
+    signed 1 678 679 ∷ signed 0 680 681 ∷ named 682 683 ∷ signed 2 683 684 ∷ numbered 1 684 685 ∷ signed 10 685 686 ∷ numbered
+    2 687 688 ∷ signed 3 688 689 ∷ signed 8 689 690 ∷ signed 1 691 692 ∷ reserved 9 693 695 ∷ signed 2 696 697 ∷ named 697 698
+    ∷ signed 6 699 700 ∷ numbered 2 701 702 ∷ signed 3 702 703 ∷ signed 0 704 705 ∷ signed 1 706 707 ∷ reserved 9 708 710 ∷
+    signed 2 711 712 ∷ reserved 21 712 716 ∷ signed 27 717 719 ∷ reserved 6 720 725 ∷ signed 26 726 728 ∷ named 729 733 ∷
+    signed 11 733 734 ∷ named 734 735 ∷ signed 23 736 738 ∷ numbered 1 739 740 ∷ signed 26 741 743 ∷ numbered 1 744 745 ∷
+    signed 24 746 748 ∷ named 749 753 ∷ signed 11 753 754 ∷ named 754 755 ∷ signed 3 755 756 ∷ signed 0 757 758 ∷ signed 1 759
+    760 ∷ reserved 9 761 763 ∷ signed 2 764 765 ∷ named 765 769 ∷ signed 11 769 770 ∷ named 770 771 ∷ signed 25 772 774 ∷
+    numbered 1 775 776 ∷ signed 27 777 779 ∷ named 780 784 ∷ signed 11 784 785 ∷ named 785 786 ∷ signed 7 787 788 ∷ named 789
+    793 ∷ signed 11 793 794 ∷ named 794 795 ∷ signed 3 795 796 ∷ reserved 9 797 799 ∷ signed 2 800 801 ∷ named 801 802 ∷ signed
+    22 803 805 ∷ numbered 0 806 807 ∷ signed 3 807 808 ∷ named 809 810 ∷ signed 11 810 811 ∷ named 811 816 ∷ signed 2 816 817 ∷
+    signed 3 817 818 ∷ signed 8 818 819 ∷ reserved 5 820 824 ∷ named 825 826 ∷ signed 11 826 827 ∷ named 827 832 ∷ signed 2 832
+    833 ∷ signed 3 833 834 ∷ signed 8 834 835 ∷ signed 30 836 837 ∷ named 837 842 ∷ signed 2 842 843 ∷ numbered 0 843 844 ∷
+    signed 3 844 845 ∷ signed 0 846 847 ∷ named 848 852 ∷ signed 11 852 853 ∷ named 853 854 ∷ signed 12 855 856 ∷ signed 2 857
+    858 ∷ reserved 1 858 861 ∷ signed 6 861 862 ∷ numbered 16 862 864 ∷ signed 7 864 865 ∷ signed 3 865 866 ∷ signed 2 866 867
+    ∷ named 867 870 ∷ signed 11 870 871 ∷ named 871 872 ∷ signed 11 872 873 ∷ named 873 874 ∷ signed 4 874 875 ∷ numbered 3 875
+    876 ∷ signed 9 876 877 ∷ numbered 0 877 878 ∷ signed 5 878 879 ∷ signed 3 879 880 ∷ signed 7 881 882 ∷ signed 7 882 883 ∷
+    numbered 2 884 885 ∷ signed 8 885 886 ∷ signed 1 887 888 ∷ signed 1 889 890 ∷ signed 1 891 892 ∷ [])
 
 abbrev pub worked_control_tree : PlainProgram
 worked_control_tree =
@@ -279,7 +289,15 @@ worked_control_tree =
           )
           )
           )
-          ) (PlainStmts.cons (PlainStmt.Valid (codes "h") true) PlainStmts.nil)
+          ) (
+          PlainStmts.cons (PlainStmt.Valid (codes "h") true) (
+          PlainStmts.cons (
+          PlainStmt.Read (lval.Meta (codes "y") None) record { name = (codes "s"); index = None } (
+          PlainExpr.Num (Some 8) 3
+          )
+          ) PlainStmts.nil
+          )
+          )
           )
           );
     }
@@ -339,6 +357,9 @@ worked_control_tree =
     )
     ) (
     PlainStmts.cons (
+    PlainStmt.If (PlainExpr.Binary 4 (PlainExpr.Named (codes "c")) (PlainExpr.Num None 2)) PlainStmts.nil
+    ) (
+    PlainStmts.cons (
     PlainStmt.If (
     PlainExpr.Binary 0 (PlainExpr.Truth true) (
     PlainExpr.Binary 1 (
@@ -351,7 +372,9 @@ worked_control_tree =
     ) (
     PlainStmts.cons (
     PlainStmt.If (
-    PlainExpr.Binary 0 (PlainExpr.Binary 7 (PlainExpr.At (lval.Meta (codes "y") None)) (PlainExpr.Num None 1)) (
+    PlainExpr.Binary 0 (
+    PlainExpr.Binary 7 (PlainExpr.At (lval.Meta (codes "y") None)) (PlainExpr.Num None 1)
+    ) (
     PlainExpr.Binary 6 (PlainExpr.At (lval.Meta (codes "y") None)) (
     PlainExpr.At (lval.Meta (codes "y") None)
     )
@@ -375,6 +398,7 @@ worked_control_tree =
     ) PlainStmts.nil
     )
     ) PlainStmts.nil
+    )
     )
     )
     )
