@@ -5,3 +5,4 @@ pub mod Whole
 pub mod Balance
 pub mod Deeper
 pub mod Exactly
+pub mod Limits

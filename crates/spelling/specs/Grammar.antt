@@ -123,6 +123,12 @@ abbrev pub Begins : (Word → Type 0) → Grammar
 Begins IsThis [] = ⊥
 Begins IsThis (word ∷ ws) = IsThis word
 
+-- the first two words have a property each, and they touch
+abbrev pub BeginTouching : (Word → Type 0) → (Word → Type 0) → Grammar
+BeginTouching IsFirst IsSecond [] = ⊥
+BeginTouching IsFirst IsSecond (one ∷ []) = ⊥
+BeginTouching IsFirst IsSecond (one ∷ other ∷ ws) = IsFirst one × IsSecond other × Touch one other
+
 -- A pair of brackets and what stands between them. The depth is how many brackets may be open at a word; a bracket
 -- counts from its opening word on, so what stands between may open one fewer.
 abbrev pub Bracketed : List ℕ → List ℕ → ℕ → (ℕ → Grammar) → Grammar

@@ -57,6 +57,23 @@ abbrev pub IsRead : {A B : Type 0} → (A → B) → B → Result A SyntaxError 
 IsRead seen x (Ok y) = seen y ≡ x
 IsRead seen x (Err error) = IsWant error
 
+-- A refusal of what can be read: want of memory, or that a number is passed, which can't be where few are used.
+abbrev pub WantsOr : Type 0 → SyntaxError → Type 0
+WantsOr Few error.Memory = Unit {0}
+WantsOr Few (error.NotProgram token) = ⊥
+WantsOr Few (error.TooDeep token) = Few → ⊥
+
+-- What a reader with bounds must answer where the words before it spell x and end at `rest`: x, and it stops there; or it wants
+-- memory; or, unless few of what is bounded are used, it refuses as too deep.
+abbrev pub IsReading : {A B : Type 0} → Type 0 → (A → B) → B → List Word → List Word → Result A SyntaxError → Type 0
+IsReading Few seen x rest after (Ok y) = (seen y ≡ x) × (after ≡ rest)
+IsReading Few seen x rest after (Err error) = WantsOr Few error
+
+-- The same where what is before it spells x and nothing stands behind.
+abbrev pub IsReadWithin : {A B : Type 0} → Type 0 → (A → B) → B → Result A SyntaxError → Type 0
+IsReadWithin Few seen x (Ok y) = seen y ≡ x
+IsReadWithin Few seen x (Err error) = WantsOr Few error
+
 -- None of these signs stands first. A reader that goes on at a sign has read the whole only where none follows.
 abbrev pub Ends : List (List ℕ) → List Word → Type 0
 Ends [] ws = Unit {0}

@@ -1,6 +1,6 @@
 ghost use Rattle.std.specs.Prelude.{◌≡◌, ℕ, ◌+◌, ◌<◌, ◌≤◌, ◌↔◌, [], ◌∷◌, drop, false, length, IsTrue, OnOk, OnErr, IfOk, IfErr, IfSome, MatchOption};
 ghost use Rattle.spelling.specs.Words.{words, word_of, piece_of};
-ghost use Rattle.spelling.specs.Grammar.{Sign, Reserved, Named, Num, IsSign, IsReserved, IsNamed, IsNum, is_number, Begins};
+ghost use Rattle.spelling.specs.Grammar.{One, Sign, TwoTouching, Reserved, Named, Num, IsSign, IsReserved, IsNamed, IsNum, is_number, Begins, BeginTouching};
 ghost use Rattle.spelling.specs.Reading.{ahead, place, Takes, MayRefuse, MayNotOpen};
 
 use crate::error::SyntaxError;
@@ -28,6 +28,35 @@ impl<'a> Reader<'a> {
         }
     }
 
+    /// The place before a token, which is counted from 0; the end of the tokens where there is no such token.
+    pub fn from(text: &'a [u8], tokens: &'a [Token], at: usize) -> Reader<'a>
+        ensures { ahead result ≡ words text.now (drop at tokens.now) }
+    {
+        Reader {
+            text,
+            tokens,
+            next: at,
+        }
+    }
+
+    /// The place so many tokens on, or the end where there are fewer; what may stand there decides how a reader goes on here.
+    pub fn later(&self, count: usize) -> Reader<'a>
+        ensures { ahead result ≡ drop count (ahead self.now) }
+    {
+        Reader {
+            text: self.text,
+            tokens: self.tokens,
+            next: self.next.saturating_add(count).min(self.count()),
+        }
+    }
+
+    /// How many tokens are left.
+    pub fn left(&self) -> usize
+        ensures { result ≡ length (ahead self.now) }
+    {
+        self.count().saturating_sub(self.next)
+    }
+
     /// Whether no token is left.
     pub fn is_done(&self) -> bool
         ensures { IsTrue result ↔ (ahead self.now ≡ []) }
@@ -40,6 +69,15 @@ impl<'a> Reader<'a> {
         ensures { result ≡ SyntaxError.NotProgram (place self.now) }
     {
         SyntaxError::NotProgram {
+            token: self.place(),
+        }
+    }
+
+    /// The refusal that the next token lies deeper, or has more operators before it, than is allowed.
+    pub fn too_deep(&self) -> SyntaxError
+        ensures { result ≡ SyntaxError.TooDeep (place self.now) }
+    {
+        SyntaxError::TooDeep {
             token: self.place(),
         }
     }
@@ -72,6 +110,30 @@ impl<'a> Reader<'a> {
             return false;
         };
         matches!(token.kind, Kind::Name) && piece(self.text, token) == name
+    }
+
+    /// Whether the next two tokens are these signs, and touch.
+    pub fn is_at_touching(&self, one: &[u8], other: &[u8]) -> bool
+        ensures { IsTrue result ↔ BeginTouching (IsSign one.now) (IsSign other.now) (ahead self.now) }
+    {
+        let Some(first) = self.peek() else {
+            return false;
+        };
+        let behind = self.later(1);
+        let Some(second) = behind.peek() else {
+            return false;
+        };
+        self.is_at_sign(one) && behind.is_at_sign(other) && first.end == second.at
+    }
+
+    /// Whether the next token is a name.
+    pub fn is_at_any_name(&self) -> bool
+        ensures { IsTrue result ↔ Begins (λ word. word.kind ≡ Kind.Name) (ahead self.now) }
+    {
+        let Some(token) = self.peek() else {
+            return false;
+        };
+        matches!(token.kind, Kind::Name)
     }
 
     /// Whether the next token is a number, with a width or without.
@@ -107,6 +169,19 @@ impl<'a> Reader<'a> {
             return Ok(());
         }
         Err(self.refusal())
+    }
+
+    /// Goes over these two signs where they are the next tokens and touch, and says whether they are. Else the reader stays.
+    pub fn eat_touching(&mut self, one: &[u8], other: &[u8]) -> bool
+        ensures at { IsTrue result ↔ BeginTouching (IsSign one.now) (IsSign other.now) (ahead self.old) }
+        ensures taken { IsTrue result → Takes (TwoTouching (IsSign one.now) (IsSign other.now)) (ahead self.old) (ahead self.new) }
+        ensures left { result ≡ false → self.new ≡ self.old }
+    {
+        let is_here = self.is_at_touching(one, other);
+        if is_here {
+            self.next += 2;
+        }
+        is_here
     }
 
     /// Goes over this reserved word. NotProgram where the next token is another; the reader stays then.
@@ -193,6 +268,38 @@ impl<'a> Reader<'a> {
         Ok(value)
     }
 
+    /// Reads a number and its width, where it has one. NotProgram where the next token is none; the reader stays then.
+    pub fn any_number(&mut self) -> Result<(Option<u8>, u128), SyntaxError>
+        ensures taken { IfOk result (λ number. Takes (One (λ word. word.kind ≡ Kind.Number number.0 number.1)) (ahead self.old) (ahead self.new)) }
+        ensures refused { IfErr result (MayRefuse (Begins (λ word. IsTrue (is_number word.kind)) (ahead self.old)) (place self.old)) }
+        ensures left { OnErr result (self.new ≡ self.old) }
+    {
+        let Some(token) = self.peek() else {
+            return Err(self.refusal());
+        };
+        let Kind::Number { width, value } = token.kind else {
+            return Err(self.refusal());
+        };
+        self.next += 1;
+        Ok((width, value))
+    }
+
+    /// Reads an include, and gives the number of its file. NotProgram where the next token is none; the reader stays then.
+    pub fn include(&mut self) -> Result<u8, SyntaxError>
+        ensures taken { IfOk result (λ file. Takes (One (λ word. word.kind ≡ Kind.Include file)) (ahead self.old) (ahead self.new)) }
+        ensures refused { IfErr result (MayRefuse ((file : ℕ) × Begins (λ word. word.kind ≡ Kind.Include file) (ahead self.old)) (place self.old)) }
+        ensures left { OnErr result (self.new ≡ self.old) }
+    {
+        let Some(token) = self.peek() else {
+            return Err(self.refusal());
+        };
+        let Kind::Include(file) = token.kind else {
+            return Err(self.refusal());
+        };
+        self.next += 1;
+        Ok(file)
+    }
+
     /// The next token's value, where it is a number without a width.
     fn number_ahead(&self) -> Option<u128>
         ensures some { IfSome result (λ value. Begins (IsNum value) (ahead self.now)) }
@@ -202,6 +309,13 @@ impl<'a> Reader<'a> {
             Kind::Number { width, value } if width.is_none() => Some(value),
             _ => None,
         }
+    }
+
+    /// How many tokens there are.
+    fn count(&self) -> usize
+        ensures { result ≡ length self.now.tokens.now }
+    {
+        self.tokens.len()
     }
 
     /// The number of the next token, or the greatest number of 32 bits.

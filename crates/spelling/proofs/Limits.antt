@@ -1,0 +1,65 @@
+-- Readers with bounds: a refusal of what can be read is want of memory, or a bound that is passed.
+use Rattle.std.proofs.Common.{◌≡◌, ℕ, zero, suc, ◌+◌, ◌≤◌, List, Result, Ok, Err, sym, subst, arith}
+use Rattle.std.specs.Result.{IsErrAnd}
+use Rattle.spelling.specs.Words.{Word}
+use Rattle.spelling.specs.Grammar.{Grammar, ◌⨟◌, Sign, IsSign, Begins, Bracketed}
+use Rattle.spelling.specs.declared.error.SyntaxError.{SyntaxError}
+use Rattle.spelling.specs.declared.error.SyntaxError.TheVariants as error
+use Rattle.spelling.specs.Reading.{MayTake, MayNotOpen, IsWant, WantsOr, IsAnswer, IsReading, IsReadWithin}
+use Rattle.spelling.proofs.Only.{begins_first, regroup, split}
+use Rattle.spelling.proofs.Taking.{may_both}
+
+-- want of memory alone
+pub want_or : (Few : Type 0) (e : SyntaxError) → IsWant e → WantsOr Few e
+want_or Few error.Memory w = tt
+want_or Few (error.NotProgram token) w = w
+want_or Few (error.TooDeep token) w = absurd w
+
+-- a part uses no more than the whole
+pub or_as : (Few Part : Type 0) (e : SyntaxError) → (Few → Part) → WantsOr Part e → WantsOr Few e
+or_as Few Part error.Memory f w = w
+or_as Few Part (error.NotProgram token) f w = w
+or_as Few Part (error.TooDeep token) f w = λ few. w (f few)
+
+pub reading_as : {A B : Type 0} (Few Part : Type 0) (seen : A → B) (x : B) (rest now : List Word) (r : Result A SyntaxError) → (Few → Part) → IsReading Part seen x rest now r → IsReading Few seen x rest now r
+reading_as Few Part seen x rest now (Ok y) f h = h
+reading_as Few Part seen x rest now (Err e) f h = or_as Few Part e f h
+
+-- a reader without bounds
+pub answer_reading : {A B : Type 0} (Few : Type 0) (seen : A → B) (x : B) (rest now : List Word) (r : Result A SyntaxError) → IsAnswer seen x rest now r → IsReading Few seen x rest now r
+answer_reading Few seen x rest now (Ok y) h = h
+answer_reading Few seen x rest now (Err e) h = want_or Few e h
+
+-- the end of a `?`
+pub or_answers : {A B : Type 0} (Few : Type 0) (seen : A → B) (x : B) (rest now : List Word) (e : SyntaxError) (r : Result A SyntaxError) → IsErrAnd r (λ d. d ≡ e) → WantsOr Few e → IsReading Few seen x rest now r
+or_answers Few seen x rest now e (Ok y) is want = absurd is
+or_answers Few seen x rest now e (Err d) is want = subst (WantsOr Few) (sym is) want
+
+pub or_reads : {A B : Type 0} (Few : Type 0) (seen : A → B) (x : B) (e : SyntaxError) (r : Result A SyntaxError) → IsErrAnd r (λ d. d ≡ e) → WantsOr Few e → IsReadWithin Few seen x r
+or_reads Few seen x e (Ok y) is want = absurd is
+or_reads Few seen x e (Err d) is want = subst (WantsOr Few) (sym is) want
+
+-- brackets of which as many may be open as a depth says are never refused
+pub opens_or : (opening closing : List ℕ) (more depth : ℕ) (Between : ℕ → Grammar) (Few : Type 0) {a d : List Word} (at : ℕ) (e : SyntaxError) → (Few → more ≤ depth) → MayTake (Bracketed opening closing more Between) a d → MayNotOpen (Begins (IsSign opening) a) depth at e → WantsOr Few e
+opens_or opening closing zero depth Between Few at e few m r = absurd m.spelled
+opens_or opening closing (suc more) depth Between Few at error.Memory few m r = tt
+opens_or opening closing (suc more) depth Between Few at (error.NotProgram token) few m r = r.1 (begins_first m)
+opens_or opening closing (suc more) depth Between Few at (error.TooDeep token) few m r = λ h. let le : suc more ≤ depth = few h in omega (arith, le, r.2)
+
+-- what stands between brackets, and may open one bracket fewer
+pub record Inside (more depth inner : ℕ) (Parts : ℕ → Grammar) (a d : List Word) : Type 0 where
+  pub within : ℕ
+  pub fewer : more ≤ depth → within ≤ inner
+  pub parts : MayTake (Parts within) a d
+
+pub inside : (opening closing : List ℕ) (more depth inner : ℕ) (Between : ℕ → Grammar) {a d : List Word} → depth ≡ inner + 1 → MayTake (Bracketed opening closing more Between) a d → Inside more depth inner (λ n. Sign opening ⨟ Between n ⨟ Sign closing) a d
+inside opening closing zero depth inner Between e m = absurd m.spelled
+inside opening closing (suc more) depth inner Between e m = record { within = more; fewer = λ le. omega (arith, le, e); parts = m }
+
+-- the same where something follows the brackets
+pub inside_then : (opening closing : List ℕ) (more depth inner : ℕ) (Between : ℕ → Grammar) {Q : Grammar} {a d : List Word} → depth ≡ inner + 1 → MayTake (Bracketed opening closing more Between ⨟ Q) a d → Inside more depth inner (λ n. Sign opening ⨟ Between n ⨟ Sign closing ⨟ Q) a d
+inside_then opening closing more depth inner Between e m =
+    let s = split m in
+    let i = inside opening closing more depth inner Between e s.first in
+    let t = split (regroup (may_both i.parts s.second)) in
+    record { within = i.within; fewer = i.fewer; parts = may_both t.first (regroup t.second) }

@@ -1,0 +1,5 @@
+use Rattle.spelling.proofs.Places.{takes_word}
+use Rattle.spelling.proofs.reader.Reader.include.Goals as goal
+
+pub returns-clause-taken : goal.returns-clause-taken
+returns-clause-taken c = takes_word c.in-Some.ensures.words c.in-Include.is
