@@ -2,3 +2,4 @@ pub mod Parts
 pub mod Operators
 pub mod Expressions
 pub mod Examples
+pub mod GoesOn

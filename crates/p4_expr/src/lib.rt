@@ -4,6 +4,8 @@
 mod depth_laws;
 mod examples;
 mod level_laws;
+mod parts;
+mod reading;
 
 pub use depth_laws::{law_of_greater_depths, law_of_open_brackets};
 pub use examples::{
@@ -11,3 +13,5 @@ pub use examples::{
     operators_stand_at_their_levels, parted_signs_are_no_operator,
 };
 pub use level_laws::law_of_levels;
+pub use parts::{amount, bits, header, index, lval, no_arguments, number, register};
+pub use reading::read_expr;

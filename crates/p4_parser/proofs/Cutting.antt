@@ -6,7 +6,7 @@ use Rattle.std.proofs.lemmas.List.Elements.{All-cons}
 use Rattle.std.proofs.lemmas.List.Kept.{AllPairs-cons}
 use Rattle.spelling.specs.Words.{Word}
 use Rattle.spelling.specs.Grammar.{Grammar, ◌⨟◌}
-use Rattle.p4_parser.specs.Tables.{Property, kind_of}
+use Rattle.p4_tables.specs.Tables.{Property, kind_of}
 
 pub cut : {P Q : Grammar} (front back : List Word) → P front → Q back → (P ⨟ Q) (front ++ back)
 cut front back p q = record { front = front; back = back; joined = refl; first = p; second = q }

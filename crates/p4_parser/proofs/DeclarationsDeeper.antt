@@ -10,10 +10,10 @@ use Rattle.spelling.proofs.Deeper.{Under, itself, under_both, under_either, unde
 use Rattle.p4_expr.specs.Parts.{SpellsBits, SpellsAmount, SpellsHeader}
 use Rattle.p4_expr.specs.Expressions.{SpellsExpr}
 use Rattle.p4_expr.proofs.ExprDeeper.{index_deeper, no_arguments_deeper, lval_deeper, expr_deeper}
-use Rattle.p4_parser.specs.Sums.{SpellsFirstTerm, SpellsLaterTerm, SpellsSign, SpellsComparisons}
-use Rattle.p4_parser.specs.Flat.{SpellsStep, SpellsSteps, SpellsFirstGain, SpellsLaterGain, SpellsHeaderField, SpellsMetaField, SpellsMember, SpellsEmit, SpellsDeparserParameters, SpellsPart, SpellsFlat}
-use Rattle.p4_parser.specs.Tables.{Property, SpellsValue, SpellsSet, SpellsOneSet, SpellsSets, SpellsValues, SpellsEntry, SpellsMatch, SpellsKey, SpellsProperty, SpellsTable}
-use Rattle.p4_parser.specs.Statements.{SpellsPlains, SpellsStmts}
+use Rattle.p4_declarations.specs.Sums.{SpellsFirstTerm, SpellsLaterTerm, SpellsSign, SpellsComparisons}
+use Rattle.p4_declarations.specs.Flat.{SpellsStep, SpellsSteps, SpellsFirstGain, SpellsLaterGain, SpellsHeaderField, SpellsMetaField, SpellsMember, SpellsEmit, SpellsDeparserParameters, SpellsPart, SpellsFlat}
+use Rattle.p4_tables.specs.Tables.{Property, SpellsValue, SpellsSet, SpellsOneSet, SpellsSets, SpellsValues, SpellsEntry, SpellsMatch, SpellsKey, SpellsProperty, SpellsTable}
+use Rattle.p4_statements.specs.Statements.{SpellsPlains, SpellsStmts}
 use Rattle.p4_parser.specs.Declarations.{SpellsActionIndex, SpellsParam, SpellsLocal, SpellsExtract, SpellsCase, SpellsNext, SpellsState, SpellsParserParameters, SpellsControlParameters, SpellsDeclaration, SpellsProgram}
 use Rattle.p4_parser.proofs.StatementsDeeper.{plains_deeper, stmts_deeper}
 

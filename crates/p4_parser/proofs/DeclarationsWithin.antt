@@ -16,9 +16,9 @@ use Rattle.p4_expr.specs.Parts.{SpellsAmount, SpellsHeader}
 use Rattle.p4_expr.specs.Expressions.{SpellsExpr}
 use Rattle.p4_expr.proofs.PartsWithin.{number_stays, num_stays, bits_stays, amount_stays, index_stays, header_stays, no_arguments_stays}
 use Rattle.p4_expr.proofs.ExprWithin.{expr_within}
-use Rattle.p4_parser.specs.Sums.{SpellsProduct, SpellsSign, SpellsFirstTerm, SpellsLaterTerm, SpellsSum, SpellsRelation, SpellsComparison, SpellsComparisons}
-use Rattle.p4_parser.specs.Flat.{SpellsStep, SpellsSteps, SpellsFirstGain, SpellsLaterGain, SpellsHeaderField, SpellsMetaField, SpellsMember, SpellsEmit, SpellsDeparserParameters, SpellsPart, SpellsFlat}
-use Rattle.p4_parser.specs.Statements.{SpellsPlains, SpellsStmts}
+use Rattle.p4_declarations.specs.Sums.{SpellsProduct, SpellsSign, SpellsFirstTerm, SpellsLaterTerm, SpellsSum, SpellsRelation, SpellsComparison, SpellsComparisons}
+use Rattle.p4_declarations.specs.Flat.{SpellsStep, SpellsSteps, SpellsFirstGain, SpellsLaterGain, SpellsHeaderField, SpellsMetaField, SpellsMember, SpellsEmit, SpellsDeparserParameters, SpellsPart, SpellsFlat}
+use Rattle.p4_statements.specs.Statements.{SpellsPlains, SpellsStmts}
 use Rattle.p4_parser.specs.Declarations.{SpellsActionIndex, SpellsParam, SpellsLocal, SpellsExtract, SpellsCase, SpellsNext, SpellsState, SpellsParserParameters, SpellsControlParameters, SpellsDeclaration, SpellsProgram}
 use Rattle.p4_parser.proofs.StatementsWithin.{plains_stay, stmts_within}
 use Rattle.p4_parser.proofs.TablesWithin.{set_stays, table_stays}

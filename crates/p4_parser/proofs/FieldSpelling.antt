@@ -5,9 +5,9 @@ use Rattle.spelling.specs.Words.{Word}
 use Rattle.spelling.specs.Grammar.{Grammar, ◌⨟◌, Begins, Bracketed, IsSign, Named}
 use Rattle.spelling.specs.Reading.{MayTake, Ends}
 use Rattle.spelling.proofs.Only.{begins_bracketed, begins_first, empty_same, not_sign, of_where, reserved_no_sign, split}
-use Rattle.p4_parser.specs.GoesOn.{size_signs}
+use Rattle.p4_declarations.specs.GoesOn.{size_signs}
 use Rattle.p4_expr.specs.Parts.{SpellsIndex}
-use Rattle.p4_parser.specs.Flat.{SpellsMetaField}
+use Rattle.p4_declarations.specs.Flat.{SpellsMetaField}
 
 pub same_field : (f g : Field) → f.name ≡ g.name → f.width ≡ g.width → f.size ≡ g.size → f ≡ g
 same_field f g name width size =

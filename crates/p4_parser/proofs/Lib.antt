@@ -12,7 +12,6 @@ pub mod TablesWithin
 pub mod DeclarationsWithin
 pub mod DeclarationsDeeper
 pub mod NestedConditions
-pub mod Peeling
 pub mod Refused
 pub mod DeclarationTrees
 pub mod Cutting

@@ -5,7 +5,7 @@ use Rattle.spelling.specs.Words.{Word}
 use Rattle.spelling.specs.Brackets.{most_open_from, most_open}
 use Rattle.spelling.proofs.Balance.{most_within}
 use Rattle.p4_expr.proofs.Building.{sign_first, sign_last, name_first, name_last, one_number, from_none}
-use Rattle.p4_parser.specs.Statements.{SpellsPlain, SpellsStmt, SpellsStmts, SpellsBranch, is_bare_block}
+use Rattle.p4_statements.specs.Statements.{SpellsPlain, SpellsStmt, SpellsStmts, SpellsBranch, is_bare_block}
 use Rattle.p4_parser.specs.Examples.{only, conditions, drop_words, condition_words, opening_word, closing_word, bracketed_conditions, bare_conditions}
 use Rattle.p4_parser.proofs.StatementTrees.{condition_of_name}
 use Rattle.p4_parser.proofs.StatementsWithin.{stmts_within}

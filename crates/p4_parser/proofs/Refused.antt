@@ -7,10 +7,10 @@ use Rattle.spelling.specs.Grammar.{Grammar, ◌⨟◌, Sign, Named}
 use Rattle.spelling.specs.Reading.{MayTake}
 use Rattle.spelling.proofs.Only.{begins, of_where, regroup, split, which}
 use Rattle.p4_expr.specs.Parts.{SpellsNumber, SpellsBits}
-use Rattle.p4_parser.specs.Flat.{SpellsConstant}
+use Rattle.p4_declarations.specs.Flat.{SpellsConstant}
 use Rattle.p4_parser.specs.Declarations.{SpellsDeclaration, SpellsProgram}
 use Rattle.p4_parser.specs.Examples.{wider_number, too_wide}
-use Rattle.p4_parser.proofs.Peeling.{first_is, peel, under_fact}
+use Rattle.spelling.proofs.Peeling.{first_is, peel, under_fact}
 
 -- what a constant's words are
 abbrev pub SpellsConst : List ℕ → ℕ → ℕ → Grammar

@@ -7,8 +7,8 @@ use Rattle.spelling.specs.Grammar.{Grammar, ◌⨟◌, Begins, IsSign, Sign}
 use Rattle.spelling.specs.Reading.{MayTake, Takes, Ends}
 use Rattle.spelling.proofs.Only.{begins, begins_first, ends_sign, one_end, other_sign, same_end, same_text}
 use Rattle.spelling.proofs.Taking.{may}
-use Rattle.p4_parser.specs.GoesOn.{product_signs, sum_signs}
-use Rattle.p4_parser.specs.Sums.{SpellsRelation, SpellsSign}
+use Rattle.p4_declarations.specs.GoesOn.{product_signs, sum_signs}
+use Rattle.p4_declarations.specs.Sums.{SpellsRelation, SpellsSign}
 
 pub same_sign : (read minus : Bool) {a b c : List Word} → MayTake (SpellsSign minus) a c → Takes (SpellsSign read) a b → (Some read ≡ Some minus) × (b ≡ c)
 same_sign true true m t = (refl, same_end m t)

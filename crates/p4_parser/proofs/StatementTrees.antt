@@ -6,7 +6,7 @@ use Rattle.spelling.specs.Grammar.{Begins, IsNamed, IsSign}
 use Rattle.spelling.specs.Words.{Word}
 use Rattle.p4_expr.specs.Expressions.{SpellsExpr}
 use Rattle.p4_expr.proofs.Building.{sign_first, sign_last, reserved_first, reserved_last, name_first, word_last, one_name, from_none}
-use Rattle.p4_parser.specs.Statements.{SpellsCondition, SpellsCall, SpellsStmt, SpellsStmts, SpellsBranch}
+use Rattle.p4_statements.specs.Statements.{SpellsCondition, SpellsCall, SpellsStmt, SpellsStmts, SpellsBranch}
 use Rattle.p4_parser.specs.Examples.{inner_else, branch_of_a_stage, only, bare_call}
 
 pub name_alone : (depth : ℕ) (name : Name) (w : Word) → IsNamed name w → SpellsExpr depth (PlainExpr.Named name) (w ∷ [])

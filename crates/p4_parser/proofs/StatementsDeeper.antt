@@ -7,7 +7,7 @@ use Rattle.spelling.proofs.Deeper.{Under, itself, under_both, under_bracketed, u
 use Rattle.p4_expr.specs.Parts.{SpellsHeader}
 use Rattle.p4_expr.specs.Expressions.{SpellsExpr}
 use Rattle.p4_expr.proofs.ExprDeeper.{index_deeper, no_arguments_deeper, lval_deeper, register_deeper, expr_deeper}
-use Rattle.p4_parser.specs.Statements.{SpellsValidity, SpellsPlain, SpellsPlains, SpellsStage, SpellsCondition, SpellsTurns, SpellsCall, SpellsApply, SpellsStmt, SpellsStmts, SpellsBranch}
+use Rattle.p4_statements.specs.Statements.{SpellsValidity, SpellsPlain, SpellsPlains, SpellsStage, SpellsCondition, SpellsTurns, SpellsCall, SpellsApply, SpellsStmt, SpellsStmts, SpellsBranch}
 
 pub plain_deeper : (depth more : ℕ) (stmt : PlainStmt) → depth ≤ more → Under (SpellsPlain depth stmt) (SpellsPlain more stmt)
 plain_deeper depth more (PlainStmt.Assign to value) le = under_both (lval_deeper depth more to le) (under_both (itself (Sign (codes "="))) (under_both (expr_deeper depth more value le) (itself (Sign (codes ";")))))

@@ -7,7 +7,7 @@ use Rattle.spelling.proofs.Balance.{Within, Stays, both_within, deeper_within, e
 use Rattle.p4_expr.proofs.PartsWithin.{num_stays, index_stays, header_stays, no_arguments_stays, lval_stays, register_stays}
 use Rattle.p4_expr.specs.Expressions.{SpellsExpr}
 use Rattle.p4_expr.proofs.ExprWithin.{expr_within}
-use Rattle.p4_parser.specs.Statements.{SpellsValidity, SpellsPlain, SpellsPlains, SpellsStage, SpellsCondition, SpellsTurns, SpellsCall, SpellsApply, SpellsStmt, SpellsStmts, SpellsBranch}
+use Rattle.p4_statements.specs.Statements.{SpellsValidity, SpellsPlain, SpellsPlains, SpellsStage, SpellsCondition, SpellsTurns, SpellsCall, SpellsApply, SpellsStmt, SpellsStmts, SpellsBranch}
 
 pub validity_stays : {depth : ℕ} (on : Bool) → Stays depth (SpellsValidity on)
 validity_stays true = stays_named (codes "setValid")

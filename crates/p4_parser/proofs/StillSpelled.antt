@@ -6,7 +6,7 @@ use Rattle.elastic_ast.specs.Tree.{PlainDecl, PlainProgram}
 use Rattle.spelling.specs.Words.{Word}
 use Rattle.spelling.specs.Grammar.{Each, FirstThenEach}
 use Rattle.p4_parser.specs.Grammar.{Spells, SpellsDecl, SpellsUtility, SpellsFirstUtility, SpellsLaterUtility}
-use Rattle.p4_parser.specs.Flat.{SpellsFlat, SpellsFirstGain, SpellsLaterGain}
+use Rattle.p4_declarations.specs.Flat.{SpellsFlat, SpellsFirstGain, SpellsLaterGain}
 use Rattle.p4_parser.specs.Declarations.{SpellsDeclaration, SpellsProgram}
 
 pub first_gain : (depth : ℕ) (term : UtilTerm) (ws : List Word) → SpellsFirstUtility term ws → SpellsFirstGain depth term ws

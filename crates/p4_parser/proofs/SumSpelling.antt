@@ -10,8 +10,8 @@ use Rattle.spelling.specs.Words.{Word}
 use Rattle.spelling.specs.Grammar.{Grammar, ◌⨟◌, Each, Begins, IsNamed, IsNum, IsSign, Sign, is_number}
 use Rattle.spelling.specs.Reading.{MayTake, Ends}
 use Rattle.spelling.proofs.Only.{begins, begins_both, begins_first, empty_same, ends_sign, fact_of, of_where, regroup, split, which}
-use Rattle.p4_parser.specs.GoesOn.{comparison_signs, product_signs, sum_signs}
-use Rattle.p4_parser.specs.Sums.{SpellsComparison, SpellsFirstTerm, SpellsLaterTerm, SpellsProduct}
+use Rattle.p4_declarations.specs.GoesOn.{comparison_signs, product_signs, sum_signs}
+use Rattle.p4_declarations.specs.Sums.{SpellsComparison, SpellsFirstTerm, SpellsLaterTerm, SpellsProduct}
 use Rattle.p4_parser.specs.Grammar.{SpellsFirstUtility, SpellsLaterUtility}
 use Rattle.p4_parser.proofs.Signs.{sign_follows}
 

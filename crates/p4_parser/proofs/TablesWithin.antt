@@ -5,7 +5,7 @@ use Rattle.elastic_ast.specs.Tree.{PlainExpr, PlainKeyset, PlainEntry, PlainTabl
 use Rattle.spelling.specs.Grammar.{◌⨟◌, Each, Separated, Commas, Sign, Named}
 use Rattle.spelling.proofs.Balance.{Stays, stays_empty, stays_sign, stays_reserved, stays_named, stays_both, stays_either, stays_where, stays_each, stays_separated, stays_commas, stays_round, stays_curly}
 use Rattle.p4_expr.proofs.PartsWithin.{number_stays, num_stays, lval_stays}
-use Rattle.p4_parser.specs.Tables.{Property, SpellsValue, SpellsSet, SpellsOneSet, SpellsSets, SpellsValues, SpellsEntry, SpellsMatch, SpellsKey, SpellsProperty, SpellsTable}
+use Rattle.p4_tables.specs.Tables.{Property, SpellsValue, SpellsSet, SpellsOneSet, SpellsSets, SpellsValues, SpellsEntry, SpellsMatch, SpellsKey, SpellsProperty, SpellsTable}
 
 pub value_stays : {depth : ℕ} (value : PlainExpr) → Stays depth (SpellsValue value)
 value_stays (PlainExpr.Num width value) = number_stays width value

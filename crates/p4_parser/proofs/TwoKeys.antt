@@ -11,9 +11,9 @@ use Rattle.spelling.specs.Reading.{MayTake}
 use Rattle.spelling.proofs.Only.{alone, regroup, split, which}
 use Rattle.spelling.proofs.Taking.{all_taken, may_both}
 use Rattle.p4_expr.specs.Parts.{SpellsLval}
-use Rattle.p4_parser.specs.Tables.{Property, kind_of, SpellsKey, SpellsProperty, SpellsTable}
+use Rattle.p4_tables.specs.Tables.{Property, kind_of, SpellsKey, SpellsProperty, SpellsTable}
 use Rattle.p4_parser.specs.Examples.{two_empty_keys}
-use Rattle.p4_parser.proofs.Peeling.{first_is, opened, past_none, peel, under_fact}
+use Rattle.spelling.proofs.Peeling.{first_is, opened, past_none, peel, under_fact}
 
 pub not_two : (one other : List Key) (rest : List Property) → AllPairs (λ a b. kind_of a ≢ kind_of b) (Property.Keys one ∷ Property.Keys other ∷ rest) → ⊥
 not_two one other rest h = h 0 1 (Property.Keys one) (omega arith) (omega arith) refl

@@ -5,8 +5,8 @@ use Rattle.elastic_ast.specs.declared.statements.Lval.TheVariants as lval
 use Rattle.elastic_ast.specs.Tree.{PlainExpr, PlainKeyset}
 use Rattle.p4_expr.specs.Expressions.{SpellsLevel, SpellsPrefixed, SpellsPrimary}
 use Rattle.p4_expr.proofs.Building.{sign_first, sign_last, reserved_first, reserved_last, name_first, name_last, word_first, word_last, touching, lift}
-use Rattle.p4_parser.specs.Tables.{Property}
-use Rattle.p4_parser.specs.Statements.{SpellsStmt, SpellsStmts, SpellsBranch}
+use Rattle.p4_tables.specs.Tables.{Property}
+use Rattle.p4_statements.specs.Statements.{SpellsStmt, SpellsStmts, SpellsBranch}
 use Rattle.p4_parser.specs.Declarations.{SpellsProgram}
 use Rattle.p4_parser.specs.WorkedTexts.{worked_declarations, worked_declarations_tree, worked_parser, worked_parser_tree, worked_control, worked_control_tree, worked_end, worked_end_tree}
 use Rattle.p4_parser.proofs.Cutting.{cut, apart_pairs}

@@ -6,9 +6,9 @@ use Rattle.elastic_ast.specs.Tree.{Name, PlainKeyset, PlainLocal, PlainNext, Pla
 use Rattle.spelling.specs.Grammar.{Grammar, Empty, ◌⨟◌, Either, Where, Each, Commas, Sign, Reserved, Named, Bracketed}
 use Rattle.p4_expr.specs.Parts.{SpellsBits, SpellsHeader}
 use Rattle.p4_expr.specs.Expressions.{SpellsExpr}
-use Rattle.p4_parser.specs.Flat.{SpellsFlat}
-use Rattle.p4_parser.specs.Tables.{SpellsSet, SpellsTable}
-use Rattle.p4_parser.specs.Statements.{SpellsPlains, SpellsStmts}
+use Rattle.p4_declarations.specs.Flat.{SpellsFlat}
+use Rattle.p4_tables.specs.Tables.{SpellsSet, SpellsTable}
+use Rattle.p4_statements.specs.Statements.{SpellsPlains, SpellsStmts}
 
 -- ['[' 'int' N ']']
 abbrev pub SpellsActionIndex : ℕ → Option Name → Grammar

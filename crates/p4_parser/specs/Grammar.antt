@@ -5,8 +5,8 @@ use Rattle.elastic_ast.specs.declared.declarations.UtilTerm.{UtilTerm}
 use Rattle.elastic_ast.specs.declared.declarations.UtilTerm.TheVariants as util
 use Rattle.elastic_ast.specs.Tree.{PlainDecl, PlainProgram}
 use Rattle.spelling.specs.Grammar.{Grammar, Nothing, ◌⨟◌, Each, FirstThenEach, Sign, Named, Bracketed}
-use Rattle.p4_parser.specs.Sums.{SpellsFirstTerm, SpellsLaterTerm}
-use Rattle.p4_parser.specs.Flat.{SpellsFlat}
+use Rattle.p4_declarations.specs.Sums.{SpellsFirstTerm, SpellsLaterTerm}
+use Rattle.p4_declarations.specs.Flat.{SpellsFlat}
 
 -- util := lterm; tables of steps aren't read yet
 abbrev pub SpellsFirstUtility : UtilTerm → Grammar

@@ -5,9 +5,9 @@ ghost use Rattle.elastic_ast.specs.declared.declarations.Field.{Field};
 ghost use Rattle.spelling.specs.Words.{Word};
 ghost use Rattle.spelling.specs.Grammar.{Each, Begins, IsSign};
 ghost use Rattle.spelling.specs.Reading.{ahead, Takes, MayTake, Ends, IsAnswer};
-ghost use Rattle.p4_parser.specs.GoesOn.{size_signs};
+ghost use Rattle.p4_declarations.specs.GoesOn.{size_signs};
 ghost use Rattle.p4_expr.specs.Parts.{SpellsBits, SpellsIndex};
-ghost use Rattle.p4_parser.specs.Flat.{SpellsMetaField};
+ghost use Rattle.p4_declarations.specs.Flat.{SpellsMetaField};
 
 use elastic_ast::Field;
 use elx_bits::{Items, Name};

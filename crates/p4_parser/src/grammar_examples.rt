@@ -5,8 +5,8 @@ ghost use Rattle.elastic_ast.specs.declared.statements.Amount.TheVariants as Amo
 ghost use Rattle.elastic_ast.specs.Tree.{PlainExpr, PlainStmt, PlainStmts, PlainTable, PlainDecl, PlainProgram};
 ghost use Rattle.spelling.specs.Words.{Word};
 ghost use Rattle.spelling.specs.Brackets.{most_open};
-ghost use Rattle.p4_parser.specs.Tables.{SpellsTable};
-ghost use Rattle.p4_parser.specs.Statements.{SpellsStmt, SpellsStmts};
+ghost use Rattle.p4_tables.specs.Tables.{SpellsTable};
+ghost use Rattle.p4_statements.specs.Statements.{SpellsStmt, SpellsStmts};
 ghost use Rattle.p4_parser.specs.Declarations.{SpellsProgram};
 ghost use Rattle.p4_parser.specs.WorkedTexts.{worked_declarations, worked_declarations_tree, worked_parser, worked_parser_tree, worked_control, worked_control_tree, worked_end, worked_end_tree};
 ghost use Rattle.p4_parser.specs.Examples.{inner_else, branch_of_a_stage, touching_closings, wider_number, too_wide, two_empty_keys, only, bare_call, conditions, bracketed_conditions, bare_conditions};

@@ -6,9 +6,9 @@ ghost use Rattle.elastic_ast.specs.declared.declarations.Key.{Key};
 ghost use Rattle.spelling.specs.Words.{Word};
 ghost use Rattle.spelling.specs.Grammar.{Begins, IsSign};
 ghost use Rattle.spelling.specs.Brackets.{most_open};
-ghost use Rattle.p4_parser.specs.Tables.{Property, SpellsTable};
+ghost use Rattle.p4_tables.specs.Tables.{Property, SpellsTable};
 ghost use Rattle.p4_parser.specs.Grammar.{Spells};
-ghost use Rattle.p4_parser.specs.Statements.{SpellsStmt, SpellsStmts, SpellsBranch};
+ghost use Rattle.p4_statements.specs.Statements.{SpellsStmt, SpellsStmts, SpellsBranch};
 ghost use Rattle.p4_parser.specs.Declarations.{SpellsProgram};
 
 /// What the grammar of symbols, comparisons, the utility and the metadata spells, the grammar of whole programs spells.

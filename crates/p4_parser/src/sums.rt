@@ -7,8 +7,8 @@ ghost use Rattle.elastic_ast.specs.declared.declarations.Rel.{Rel};
 ghost use Rattle.elastic_ast.specs.declared.declarations.UtilTerm.{UtilTerm};
 ghost use Rattle.spelling.specs.Words.{Word};
 ghost use Rattle.spelling.specs.Reading.{ahead, Takes, MayTake, Ends, IsAnswer};
-ghost use Rattle.p4_parser.specs.GoesOn.{product_signs, sum_signs, comparison_signs};
-ghost use Rattle.p4_parser.specs.Sums.{SpellsProduct, SpellsSign, SpellsSum, SpellsRelation, SpellsComparison, SpellsComparisons};
+ghost use Rattle.p4_declarations.specs.GoesOn.{product_signs, sum_signs, comparison_signs};
+ghost use Rattle.p4_declarations.specs.Sums.{SpellsProduct, SpellsSign, SpellsSum, SpellsRelation, SpellsComparison, SpellsComparisons};
 ghost use Rattle.p4_parser.specs.Grammar.{SpellsUtility};
 
 use elastic_ast::{Comp, LinTerm, Rel, UtilTerm};

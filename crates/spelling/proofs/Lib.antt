@@ -6,3 +6,4 @@ pub mod Balance
 pub mod Deeper
 pub mod Exactly
 pub mod Limits
+pub mod Peeling

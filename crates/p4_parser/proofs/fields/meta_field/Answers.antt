@@ -1,6 +1,6 @@
 use Rattle.spelling.proofs.Only.{after, after_one, alone, ends_name, named_same, same_end, want_answers, wants, wants_name, wants_one}
 use Rattle.spelling.proofs.Taking.{takes_both, may_takes}
-use Rattle.p4_parser.specs.GoesOn.{size_signs}
+use Rattle.p4_declarations.specs.GoesOn.{size_signs}
 use Rattle.p4_parser.proofs.FieldSpelling.{same_field}
 use Rattle.p4_parser.proofs.fields.meta_field.Goals as goal
 

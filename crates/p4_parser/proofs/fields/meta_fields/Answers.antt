@@ -3,7 +3,7 @@ use Rattle.spelling.specs.Grammar.{Begins, IsSign}
 use Rattle.spelling.proofs.Only.{after, not_there, want_answers, wants}
 use Rattle.spelling.proofs.Taking.{may, each_more}
 use Rattle.spelling.proofs.Whole.{left_more, none_left, one_left}
-use Rattle.p4_parser.specs.Flat.{SpellsMetaField}
+use Rattle.p4_declarations.specs.Flat.{SpellsMetaField}
 use Rattle.p4_parser.proofs.FieldSpelling.{field_no_sign}
 use Rattle.p4_parser.proofs.fields.meta_fields.Goals as goal
 

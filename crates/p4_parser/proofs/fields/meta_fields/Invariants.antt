@@ -4,7 +4,7 @@ use Rattle.spelling.specs.Words.{Word}
 use Rattle.spelling.specs.Grammar.{Begins, Each, IsSign}
 use Rattle.spelling.specs.Reading.{ahead, MayTake}
 use Rattle.spelling.proofs.Whole.{Left}
-use Rattle.p4_parser.specs.Flat.{SpellsMetaField}
+use Rattle.p4_declarations.specs.Flat.{SpellsMetaField}
 use Rattle.p4_parser.proofs.fields.meta_fields.Given as goal
 
 abbrev pub invariant-fields : goal.invariant-fields

@@ -2,7 +2,7 @@ use Rattle.std.proofs.Common.{ap, codes, refl}
 use Rattle.elastic_ast.specs.Tree.{PlainDecl}
 use Rattle.spelling.proofs.Only.{after, after_one, alone, begins_first, ends_sign, same_end, want_answers, wants, wants_one, wants_open, within}
 use Rattle.spelling.proofs.Taking.{may, takes_both, takes_bracketed}
-use Rattle.p4_parser.specs.GoesOn.{sum_signs}
+use Rattle.p4_declarations.specs.GoesOn.{sum_signs}
 use Rattle.p4_parser.specs.Grammar.{SpellsUtility}
 use Rattle.p4_parser.proofs.parsing.maximize.Goals as goal
 

@@ -3,7 +3,7 @@ use Rattle.elastic_ast.specs.Tree.{PlainDecl}
 use Rattle.spelling.specs.Grammar.{Each}
 use Rattle.spelling.proofs.Only.{after, after_one, begins, of_bracketed, same_end, want_answers, wants, wants_open}
 use Rattle.spelling.proofs.Taking.{takes_both, takes_bracketed}
-use Rattle.p4_parser.specs.Flat.{SpellsMetaField}
+use Rattle.p4_declarations.specs.Flat.{SpellsMetaField}
 use Rattle.p4_parser.proofs.parsing.meta.Goals as goal
 
 pub returns-clause-taken : goal.returns-clause-taken

@@ -4,7 +4,7 @@ use Rattle.spelling.specs.Reading.{ahead}
 use Rattle.spelling.proofs.Only.{after, after_one, begins, begins_first, not_there, regroup, want_answers, wants}
 use Rattle.spelling.proofs.Taking.{may, takes_both, first_one, later_more}
 use Rattle.spelling.proofs.Whole.{first_of, left_first, left_more, none_left, one_left}
-use Rattle.p4_parser.specs.Sums.{SpellsComparison}
+use Rattle.p4_declarations.specs.Sums.{SpellsComparison}
 use Rattle.p4_parser.proofs.SumSpelling.{LaterComp, comps_follow}
 use Rattle.p4_parser.proofs.sums.comparisons.Goals as goal
 

@@ -3,8 +3,8 @@ use Rattle.elastic_ast.specs.declared.declarations.Comp.{Comp}
 use Rattle.spelling.specs.Words.{Word}
 use Rattle.spelling.specs.Reading.{ahead, MayTake, Takes, Ends}
 use Rattle.spelling.proofs.Whole.{Left}
-use Rattle.p4_parser.specs.GoesOn.{comparison_signs}
-use Rattle.p4_parser.specs.Sums.{SpellsComparisons}
+use Rattle.p4_declarations.specs.GoesOn.{comparison_signs}
+use Rattle.p4_declarations.specs.Sums.{SpellsComparisons}
 use Rattle.p4_parser.proofs.SumSpelling.{LaterComp}
 use Rattle.p4_parser.proofs.sums.comparisons.Given as goal
 

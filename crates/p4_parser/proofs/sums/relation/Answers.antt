@@ -3,7 +3,7 @@ use Rattle.elastic_ast.specs.declared.declarations.Rel.TheVariants as rel
 use Rattle.spelling.specs.Grammar.{Begins, IsSign}
 use Rattle.spelling.specs.Reading.{ahead, MayTake}
 use Rattle.spelling.proofs.Only.{not_there}
-use Rattle.p4_parser.specs.Sums.{SpellsRelation}
+use Rattle.p4_declarations.specs.Sums.{SpellsRelation}
 use Rattle.p4_parser.proofs.Signs.{no_relation, same_relation}
 use Rattle.p4_parser.proofs.sums.relation.Goals as goal
 

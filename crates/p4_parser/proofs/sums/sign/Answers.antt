@@ -2,7 +2,7 @@ use Rattle.std.proofs.Common.{codes, false, true, refl, subst, sym}
 use Rattle.spelling.specs.Grammar.{Begins, IsSign}
 use Rattle.spelling.specs.Reading.{ahead, MayTake}
 use Rattle.spelling.proofs.Only.{not_there}
-use Rattle.p4_parser.specs.Sums.{SpellsSign}
+use Rattle.p4_declarations.specs.Sums.{SpellsSign}
 use Rattle.p4_parser.proofs.Signs.{no_sign_there, same_sign}
 use Rattle.p4_parser.proofs.sums.sign.Goals as goal
 

@@ -3,8 +3,8 @@ use Rattle.spelling.specs.Reading.{Ends, ahead}
 use Rattle.spelling.proofs.Only.{after, of_where, fact_of, regroup, want_answers, wants}
 use Rattle.spelling.proofs.Taking.{may, takes_where, first_one, later_more}
 use Rattle.spelling.proofs.Whole.{first_of, left_first, left_more, none_left, one_left}
-use Rattle.p4_parser.specs.GoesOn.{sum_signs}
-use Rattle.p4_parser.specs.Sums.{SpellsFirstTerm, SpellsLaterTerm}
+use Rattle.p4_declarations.specs.GoesOn.{sum_signs}
+use Rattle.p4_declarations.specs.Sums.{SpellsFirstTerm, SpellsLaterTerm}
 use Rattle.p4_parser.proofs.Signs.{sign_goes_on}
 use Rattle.p4_parser.proofs.SumSpelling.{terms_follow}
 use Rattle.p4_parser.proofs.Terms.{later_term}

@@ -3,8 +3,8 @@ use Rattle.elastic_ast.specs.declared.declarations.LinTerm.{LinTerm}
 use Rattle.spelling.specs.Words.{Word}
 use Rattle.spelling.specs.Reading.{ahead, MayTake, Takes, Ends}
 use Rattle.spelling.proofs.Whole.{Left}
-use Rattle.p4_parser.specs.GoesOn.{sum_signs}
-use Rattle.p4_parser.specs.Sums.{SpellsLaterTerm, SpellsSum}
+use Rattle.p4_declarations.specs.GoesOn.{sum_signs}
+use Rattle.p4_declarations.specs.Sums.{SpellsLaterTerm, SpellsSum}
 use Rattle.p4_parser.proofs.sums.sum.Given as goal
 
 abbrev pub invariant-terms : goal.invariant-terms

@@ -3,7 +3,7 @@ use Rattle.elastic_ast.specs.declared.declarations.UtilTerm.{UtilTerm}
 use Rattle.spelling.specs.Words.{Word}
 use Rattle.spelling.specs.Reading.{ahead, MayTake, Takes, Ends}
 use Rattle.spelling.proofs.Whole.{Left}
-use Rattle.p4_parser.specs.GoesOn.{sum_signs}
+use Rattle.p4_declarations.specs.GoesOn.{sum_signs}
 use Rattle.p4_parser.specs.Grammar.{SpellsLaterUtility, SpellsUtility}
 use Rattle.p4_parser.proofs.sums.utility.Given as goal
 

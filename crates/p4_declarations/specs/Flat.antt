@@ -8,7 +8,7 @@ use Rattle.elastic_ast.specs.declared.declarations.UtilTerm.TheVariants as util
 use Rattle.elastic_ast.specs.Tree.{Name, PlainDecl}
 use Rattle.spelling.specs.Grammar.{Grammar, Nothing, One, ◌⨟◌, Either, Where, Each, FirstThenEach, Separated, Sign, Reserved, Named, Num, Bracketed}
 use Rattle.p4_expr.specs.Parts.{SpellsNumber, SpellsBits, SpellsAmount, SpellsIndex, SpellsHeader, SpellsNoArguments}
-use Rattle.p4_parser.specs.Sums.{SpellsFirstTerm, SpellsLaterTerm, SpellsSign, SpellsComparisons}
+use Rattle.p4_declarations.specs.Sums.{SpellsFirstTerm, SpellsLaterTerm, SpellsSign, SpellsComparisons}
 
 -- INCLUDE
 abbrev pub SpellsInclude : ℕ → Grammar

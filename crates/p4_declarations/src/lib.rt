@@ -1,0 +1,2 @@
+//! The declarations that have no expression in them: which words spell one, and how these are read.
+#![tactic(auto)]

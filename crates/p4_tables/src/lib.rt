@@ -1,0 +1,2 @@
+//! The tables of a program: which words spell one, and how these are read.
+#![tactic(auto)]
