@@ -5,7 +5,7 @@ use Rattle.spelling.specs.Words.{Word}
 use Rattle.spelling.specs.Grammar.{Grammar, ◌⨟◌, Sign, IsSign, Begins, Bracketed}
 use Rattle.spelling.specs.declared.error.SyntaxError.{SyntaxError}
 use Rattle.spelling.specs.declared.error.SyntaxError.TheVariants as error
-use Rattle.spelling.specs.Reading.{MayTake, MayNotOpen, IsWant, WantsOr, IsAnswer, IsReading, IsReadWithin}
+use Rattle.spelling.specs.Reading.{MayTake, MayNotOpen, IsWant, WantsOr, IsSameRefusal, IsAnswer, IsReading, IsReadWithin}
 use Rattle.spelling.proofs.Only.{begins_first, regroup, split}
 use Rattle.spelling.proofs.Taking.{may_both}
 
@@ -24,6 +24,16 @@ or_as Few Part (error.TooDeep token) f w = λ few. w (f few)
 pub reading_as : {A B : Type 0} (Few Part : Type 0) (seen : A → B) (x : B) (rest now : List Word) (r : Result A SyntaxError) → (Few → Part) → IsReading Part seen x rest now r → IsReading Few seen x rest now r
 reading_as Few Part seen x rest now (Ok y) f h = h
 reading_as Few Part seen x rest now (Err e) f h = or_as Few Part e f h
+
+-- a refusal of the same kind
+pub or_same : (Few : Type 0) (d e : SyntaxError) → IsSameRefusal d e → WantsOr Few d → WantsOr Few e
+or_same Few error.Memory error.Memory s w = tt
+or_same Few error.Memory (error.NotProgram token) s w = s
+or_same Few error.Memory (error.TooDeep token) s w = absurd s
+or_same Few (error.NotProgram token) e s w = absurd w
+or_same Few (error.TooDeep token) error.Memory s w = tt
+or_same Few (error.TooDeep token) (error.NotProgram other) s w = s
+or_same Few (error.TooDeep token) (error.TooDeep other) s w = w
 
 -- a reader without bounds
 pub answer_reading : {A B : Type 0} (Few : Type 0) (seen : A → B) (x : B) (rest now : List Word) (r : Result A SyntaxError) → IsAnswer seen x rest now r → IsReading Few seen x rest now r

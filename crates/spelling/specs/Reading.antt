@@ -1,5 +1,5 @@
 -- What a reader has taken of the words before it, this project's own.
-use Rattle.std.specs.Prelude.{◌≡◌, ℕ, ◌-◌, ◌^◌, ◌<◌, min, List, [], ◌∷◌, ◌++◌, drop, length, Result, Ok, Err}
+use Rattle.std.specs.Prelude.{◌≡◌, ℕ, ◌-◌, ◌^◌, ◌<◌, ◌≤◌, min, List, [], ◌∷◌, ◌++◌, drop, length, Result, Ok, Err}
 use Rattle.spelling.specs.Words.{Word, words}
 use Rattle.spelling.specs.Grammar.{Grammar, Begins, IsSign}
 use Rattle.spelling.specs.declared.error.SyntaxError.{SyntaxError}
@@ -73,6 +73,24 @@ IsReading Few seen x rest after (Err error) = WantsOr Few error
 abbrev pub IsReadWithin : {A B : Type 0} → Type 0 → (A → B) → B → Result A SyntaxError → Type 0
 IsReadWithin Few seen x (Ok y) = seen y ≡ x
 IsReadWithin Few seen x (Err error) = WantsOr Few error
+
+-- two refusals of one kind, whatever tokens they name
+abbrev pub IsSameRefusal : SyntaxError → SyntaxError → Type 0
+IsSameRefusal error.Memory error.Memory = Unit {0}
+IsSameRefusal error.Memory (error.NotProgram other) = ⊥
+IsSameRefusal error.Memory (error.TooDeep other) = ⊥
+IsSameRefusal (error.NotProgram token) error.Memory = ⊥
+IsSameRefusal (error.NotProgram token) (error.NotProgram other) = Unit {0}
+IsSameRefusal (error.NotProgram token) (error.TooDeep other) = ⊥
+IsSameRefusal (error.TooDeep token) error.Memory = ⊥
+IsSameRefusal (error.TooDeep token) (error.NotProgram other) = ⊥
+IsSameRefusal (error.TooDeep token) (error.TooDeep other) = Unit {0}
+
+-- A refusal names no token past this one.
+abbrev pub NamesAtMost : ℕ → SyntaxError → Type 0
+NamesAtMost most error.Memory = Unit {0}
+NamesAtMost most (error.NotProgram token) = token ≤ most
+NamesAtMost most (error.TooDeep token) = token ≤ most
 
 -- None of these signs stands first. A reader that goes on at a sign has read the whole only where none follows.
 abbrev pub Ends : List (List ℕ) → List Word → Type 0

@@ -1,3 +1,5 @@
+ghost use Rattle.spelling.specs.Reading.{NamesAtMost, IsSameRefusal};
+
 use thiserror::Error;
 
 /// Why tokens spell nothing. A token counts from 0, and is at most the number of tokens.
@@ -12,4 +14,23 @@ pub enum SyntaxError {
     /// There is no memory for what the tokens spell.
     #[error("out of memory")]
     Memory,
+}
+
+impl SyntaxError {
+    /// The same refusal, where `most` is the number of tokens: the end of them is named for a place behind it.
+    pub fn within(self, most: usize) -> SyntaxError
+        ensures named { NamesAtMost most result }
+        ensures same { IsSameRefusal self result }
+    {
+        let last = u32::try_from(most).unwrap_or(u32::MAX);
+        match self {
+            SyntaxError::NotProgram { token } => SyntaxError::NotProgram {
+                token: token.min(last),
+            },
+            SyntaxError::TooDeep { token } => SyntaxError::TooDeep {
+                token: token.min(last),
+            },
+            SyntaxError::Memory => SyntaxError::Memory,
+        }
+    }
 }
