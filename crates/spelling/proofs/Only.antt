@@ -1,6 +1,6 @@
 -- What a reader must have taken of words that spell one thing and then another: the same words, up to where the other
 -- begins.
-use Rattle.std.proofs.Common.{◌≡◌, ℕ, zero, suc, ◌+◌, ◌≤◌, Bool, true, false, IsTrue, List, [], ◌∷◌, ◌++◌, bytes_eq, cond, Result, Ok, Err, refl, ap, sym, subst, ◌∙◌, append_assoc, add-one, ◌⊎◌, inl, inr}
+use Rattle.std.proofs.Common.{◌≡◌, ℕ, zero, suc, ◌+◌, ◌≤◌, Bool, true, false, IsTrue, List, [], ◌∷◌, ◌++◌, None, bytes_eq, cond, Result, Ok, Err, refl, ap, sym, subst, ◌∙◌, append_assoc, add-one, ◌⊎◌, inl, inr}
 use Rattle.std.proofs.lemmas.Slice.Eq.{bytes_eq-Decides}
 use Rattle.std.proofs.lemmas.Bool.{false≢true}
 use Rattle.std.specs.Result.{IsErrAnd}
@@ -65,7 +65,7 @@ pub which : {P Q : Grammar} {a c : List Word} → MayTake (Either P Q) a c → M
 which m = elim m.spelled [ inl s ↦ inl record { front = m.front; joined = m.joined; spelled = s } | inr s ↦ inr record { front = m.front; joined = m.joined; spelled = s } ]
 
 -- the word that is taken, and the words behind it
-opened : {F : Word → Type 0} {a c : List Word} (m : MayTake (One F) a c) → a ≡ m.spelled.word ∷ c
+pub opened : {F : Word → Type 0} {a c : List Word} (m : MayTake (One F) a c) → a ≡ m.spelled.word ∷ c
 opened {c = c} m = m.joined ∙ ap (λ ws. ws ++ c) m.spelled.alone
 
 opened_takes : {F : Word → Type 0} {a c : List Word} (t : Takes (One F) a c) → a ≡ t.spelled.word ∷ c
@@ -97,7 +97,7 @@ after_one {Q = Q} {c = c} m t =
     subst (λ ws. MayTake Q ws c) (sym (same_end s.first t)) s.second
 
 -- a word names one name
-same_name : {n k : List ℕ} {a b c : List Word} → MayTake (Named n) a c → Takes (Named k) a b → k ≡ n
+pub same_name : {n k : List ℕ} {a b c : List Word} → MayTake (Named n) a c → Takes (Named k) a b → k ≡ n
 same_name m t = let e = same_word m t in let f = m.spelled.is_this.1 in let g = t.spelled.is_this.1 in cc
 
 pub named_same : {n k : List ℕ} {Q : Grammar} {a b c : List Word} → MayTake (Named n ⨟ Q) a c → Takes (Named k) a b → k ≡ n
@@ -122,7 +122,7 @@ stands at (error.TooDeep token) r s = r
 pub wants_one : {F : Word → Type 0} {Q : Grammar} {a c : List Word} (at : ℕ) (e : SyntaxError) → MayTake (One F ⨟ Q) a c → MayRefuse (Begins F a) at e → IsWant e
 wants_one at e m r = stands at e r (begins_first m)
 
-begins_as : {F G : Word → Type 0} → ((word : Word) → F word → G word) → (ws : List Word) → Begins F ws → Begins G ws
+pub begins_as : {F G : Word → Type 0} → ((word : Word) → F word → G word) → (ws : List Word) → Begins F ws → Begins G ws
 begins_as f [] b = b
 begins_as f (word ∷ ws) b = f word b
 
@@ -216,3 +216,7 @@ reserved_no_sign (kind.Include file) h = refl
 -- what a test denied isn't there
 pub not_there : {Stands : Type 0} → (Stands → IsTrue false) → Stands → ⊥
 not_there test stands = false≢true (test stands)
+
+-- a word is one number
+pub same_number : {n k : ℕ} {a b c : List Word} → MayTake (Num n) a c → Takes (Num k) a b → k ≡ n
+same_number {n = n} {k = k} m t = let e = same_word m t in let f : m.spelled.word.kind ≡ kind.Number None n = m.spelled.is_this in let g : t.spelled.word.kind ≡ kind.Number None k = t.spelled.is_this in cc

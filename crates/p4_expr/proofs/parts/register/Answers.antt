@@ -1,0 +1,17 @@
+use Rattle.spelling.proofs.Only.{after_one, named_same}
+use Rattle.spelling.proofs.Taking.{takes_may}
+use Rattle.spelling.proofs.Limits.{or_answers}
+use Rattle.p4_expr.proofs.PartSpelling.{same_register}
+use Rattle.p4_expr.proofs.parts.register.Goals as goal
+
+pub returns-clause-taken : goal.returns-clause-taken
+returns-clause-taken c = takes_may c.in_ok-name.ensures.taken c.in_ok-index.ensures.taken
+
+pub returns-in_err-index-clause-only : goal.returns-in_err-index-clause-only
+returns-in_err-index-clause-only c = λ more register rest m ends.
+    or_answers _ _ _ _ _ _ c.from_residual-in_err-index.result c.from_residual-in_err-index.ensures.1 (c.in_err-index.ensures.only more register.index rest (after_one m c.in_ok-name.ensures.taken) ends)
+
+pub returns-clause-only : goal.returns-clause-only
+returns-clause-only c = λ more register rest m ends.
+    let r = c.in_ok-index.ensures.only more register.index rest (after_one m c.in_ok-name.ensures.taken) ends in
+    (same_register _ register (named_same m c.in_ok-name.ensures.taken) r.0, r.1)
