@@ -1,5 +1,5 @@
 -- What the spelling of a part of an expression leaves no choice of.
-use Rattle.std.proofs.Common.{◌≡◌, ℕ, zero, suc, ◌<◌, ◌^◌, true, IsTrue, List, [], ◌∷◌, drop, Option, Some, None, codes, refl, ap, sym, subst, ◌∙◌}
+use Rattle.std.proofs.Common.{◌≡◌, ℕ, zero, suc, ◌<◌, ◌^◌, true, false, bytes_eq, IsTrue, List, [], ◌∷◌, drop, Option, Some, None, codes, refl, ap, sym, subst, ◌∙◌}
 use Rattle.p4_lexer.specs.declared.token.Kind.{Kind}
 use Rattle.p4_lexer.specs.declared.token.Kind.TheVariants as kind
 use Rattle.elastic_ast.specs.declared.statements.Amount.{Amount}
@@ -75,3 +75,7 @@ pub by_place : (more : ℕ) (Answer : Lval → Type 0) (place : Lval) {a c : Lis
 by_place more Answer (lval.Header header field) {a = a} m h t s = h header field m (begins_first (split m).first)
 by_place more Answer (lval.Meta name index) {a = a} m h t s = t name index m (begins_first m)
 by_place more Answer (lval.Std name) {a = a} m h t s = s name m (begins_first m)
+
+-- a sign other than the opening bracket begins no index
+pub ends_index : (sign : List ℕ) (ws : List Word) → bytes_eq sign (codes "[") ≡ false → Begins (IsSign sign) ws → EndsIndex ws
+ends_index sign ws other at = λ bracket. absurd (other_text sign (codes "[") ws other (λ word h. h.1) (λ word h. h.1) at bracket)

@@ -1,0 +1,57 @@
+use Rattle.std.proofs.Common.{ap, codes, refl, sym, subst, ◌∙◌}
+use Rattle.std.proofs.lemmas.List.Elements.{All-cons, All-head, All-nil, All-tail}
+use Rattle.elastic_ast.specs.Seen.{seen_expr, seen_exprs}
+use Rattle.elastic_ast.specs.SeenLaws.{seen_stmt-apply, seen_stmt-assign, seen_stmt-call, seen_stmt-read, seen_stmt-valid, seen_stmt-write}
+use Rattle.elastic_ast.specs.Tree.{PlainExpr, PlainStmt}
+use Rattle.spelling.specs.Grammar.{◌⨟◌, Sign}
+use Rattle.spelling.specs.Reading.{Takes, IsReading, ahead}
+use Rattle.spelling.proofs.Only.{after, after_one, alone, begins, begins_first, ends_sign, named_same, regroup, same_end, split, wants, wants_name, wants_one}
+use Rattle.spelling.proofs.Taking.{may, may_takes, takes_both, takes_bracketed, takes_may}
+use Rattle.spelling.proofs.Limits.{answer_reading, inside, inside_then, opens_or, or_answers, or_as, want_or}
+use Rattle.p4_expr.specs.Expressions.{HasFewOperators, SpellsExpr}
+use Rattle.p4_expr.specs.GoesOn.{expression_signs}
+use Rattle.p4_expr.proofs.PartSpelling.{ends_index}
+use Rattle.p4_statements.specs.Statements.{SpellsPlain}
+use Rattle.p4_statements.specs.Reading.{HasFew, SpellsSimple}
+use Rattle.p4_statements.proofs.plain.validity.Goals as goal
+
+pub returns-clause-taken : goal.returns-clause-taken
+returns-clause-taken c = 
+    subst (λ s. Takes (SpellsPlain c.args.depth s) (ahead c.args.reader.now) (ahead c.sign-2.new.self)) (sym (seen_stmt-valid c.in_ok-header.header c.in_ok-on.on))
+    (takes_both c.in_ok-header.ensures.taken (takes_both c.in_ok-sign.ensures.taken (takes_both c.in_ok-on.ensures.taken (takes_both c.in_ok-no_arguments.ensures.taken c.in_ok-sign-2.ensures.taken))))
+
+pub returns-clause-few : goal.returns-clause-few
+returns-clause-few c = subst HasFew (sym (seen_stmt-valid c.in_ok-header.header c.in_ok-on.on)) (All-nil HasFewOperators)
+
+pub returns-in_err-header-clause-only : goal.returns-in_err-header-clause-only
+returns-in_err-header-clause-only c = λ more header on rest m.
+    or_answers _ _ _ _ _ _ c.from_residual.result c.from_residual.ensures.1 (want_or _ _ (wants m (λ b f s. c.in_err-header.ensures.only header b f)))
+
+pub returns-in_err-on-clause-only : goal.returns-in_err-on-clause-only
+returns-in_err-on-clause-only c = λ more header on rest m.
+    let m1 = after m (λ b f s. c.in_ok-header.ensures.only header b f) in
+    let m2 = after_one m1.1 c.in_ok-sign.ensures.taken in
+    or_answers _ _ _ _ _ _ c.from_residual-in_err-on.result c.from_residual-in_err-on.ensures.1 (want_or _ _ (wants m2 (λ b f s. c.in_err-on.ensures.only on b f)))
+
+pub returns-in_err-no_arguments-clause-only : goal.returns-in_err-no_arguments-clause-only
+returns-in_err-no_arguments-clause-only c = λ more header on rest m.
+    let m1 = after m (λ b f s. c.in_ok-header.ensures.only header b f) in
+    let m2 = after_one m1.1 c.in_ok-sign.ensures.taken in
+    let m3 = after m2 (λ b f s. c.in_ok-on.ensures.only on b f) in
+    or_answers _ _ _ _ _ _ c.from_residual-in_err-no_arguments.result c.from_residual-in_err-no_arguments.ensures.1 (wants m3.1 (λ b f s. c.in_err-no_arguments.ensures.only more b f))
+
+pub returns-in_err-sign-2-clause-only : goal.returns-in_err-sign-2-clause-only
+returns-in_err-sign-2-clause-only c = λ more header on rest m.
+    let m1 = after m (λ b f s. c.in_ok-header.ensures.only header b f) in
+    let m2 = after_one m1.1 c.in_ok-sign.ensures.taken in
+    let m3 = after m2 (λ b f s. c.in_ok-on.ensures.only on b f) in
+    let m4 = after m3.1 (λ b f s. c.in_ok-no_arguments.ensures.only more b f) in
+    or_answers _ _ _ _ _ _ c.from_residual-in_err-sign-2.result c.from_residual-in_err-sign-2.ensures.1 (want_or _ _ (wants_one _ _ (alone m4.1) c.in_err-sign-2.ensures.refused))
+
+pub returns-clause-only : goal.returns-clause-only
+returns-clause-only c = λ more header on rest m.
+    let m1 = after m (λ b f s. c.in_ok-header.ensures.only header b f) in
+    let m2 = after_one m1.1 c.in_ok-sign.ensures.taken in
+    let m3 = after m2 (λ b f s. c.in_ok-on.ensures.only on b f) in
+    let m4 = after m3.1 (λ b f s. c.in_ok-no_arguments.ensures.only more b f) in
+    (seen_stmt-valid c.in_ok-header.header c.in_ok-on.on ∙ ap (λ h. PlainStmt.Valid h c.in_ok-on.on) m1.0 ∙ ap (PlainStmt.Valid header) m3.0, same_end m4.1 c.in_ok-sign-2.ensures.taken)
