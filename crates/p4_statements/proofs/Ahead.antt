@@ -8,9 +8,9 @@ use Rattle.elastic_ast.specs.declared.statements.Lval.TheVariants as lval
 use Rattle.elastic_ast.specs.declared.statements.RegRef.{RegRef}
 use Rattle.elastic_ast.specs.Tree.{Name, PlainExpr, PlainStmt, PlainStmts}
 use Rattle.spelling.specs.Words.{Word}
-use Rattle.spelling.specs.Grammar.{Grammar, ◌⨟◌, One, Named, Sign, Begins, IsNamed, IsSign, Bracketed}
+use Rattle.spelling.specs.Grammar.{Grammar, ◌⨟◌, One, Named, Sign, Begins, IsNamed, IsSign, Bracketed, is_sign}
 use Rattle.spelling.specs.Reading.{MayTake}
-use Rattle.spelling.proofs.Only.{begins, begins_as, begins_bracketed, begins_first, opened, other_text, regroup, split}
+use Rattle.spelling.proofs.Only.{begins, begins_as, begins_bracketed, begins_first, not_sign, opened, other_text, regroup, split}
 use Rattle.spelling.proofs.Peeling.{past_none}
 use Rattle.p4_expr.specs.Parts.{SpellsHeader, SpellsIndex, SpellsLval, SpellsNoArguments, SpellsRegister}
 use Rattle.p4_expr.specs.Expressions.{SpellsExpr}
@@ -185,3 +185,20 @@ reads_on a r no_index no_call = elim r.1 [ inl h ↦ no_index h.0 h.1 | inr h �
 pub if_ok_as : {A E : Type 0} (P Q : A → Type 0) (r : Result A E) → ((x : A) → P x → Q x) → IfOk r P → IfOk r Q
 if_ok_as P Q (Ok x) f h = f x h
 if_ok_as P Q (Err e) f h = tt
+
+place_first : (more : ℕ) (to : Lval) {Q : Grammar} {a c : List Word} → MayTake (SpellsLval more to ⨟ Q) a c → Begins (λ word. word.kind ≡ kind.Name) a
+place_first more (lval.Header header field) {a = a} m = begins_as (λ word h. h.0) a (begins_first (regroup (regroup m)))
+place_first more (lval.Meta name index) {a = a} m = begins_as (λ word h. h.0) a (begins_first (regroup m))
+place_first more (lval.Std name) {a = a} m = begins_as (λ word h. h.0) a (begins_first (regroup m))
+
+-- a plain statement begins with a name
+pub plain_first : (more : ℕ) (stmt : PlainStmt) {Q : Grammar} {a c : List Word} → MayTake (SpellsPlain more stmt ⨟ Q) a c → Begins (λ word. word.kind ≡ kind.Name) a
+plain_first more stmt {a = a} m =
+    by_plain more (λ _. Begins (λ word. word.kind ≡ kind.Name) a) stmt (split m).first
+    (λ to value f. place_first more to f)
+    (λ to register cell f. place_first more to f)
+    (λ register cell value f. begins_as (λ word h. h.0) a (begins_first (regroup f)))
+    (λ header on f. begins_as (λ word h. h.0) a (begins_first (regroup f)))
+
+pub plain_no_sign : (more : ℕ) (stmt : PlainStmt) (sign : List ℕ) {Q : Grammar} {a c : List Word} → MayTake (SpellsPlain more stmt ⨟ Q) a c → Begins (IsSign sign) a → ⊥
+plain_no_sign more stmt sign {a = a} m at = not_sign sign a (λ word h. ap is_sign h) (plain_first more stmt m) at

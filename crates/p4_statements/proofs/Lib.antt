@@ -1,3 +1,4 @@
 pub mod Validity
 pub mod Ahead
 pub mod NoRead
+pub mod Lists
