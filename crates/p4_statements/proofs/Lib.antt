@@ -2,3 +2,5 @@ pub mod Validity
 pub mod Ahead
 pub mod NoRead
 pub mod Lists
+pub mod ExprFirst
+pub mod Arguments

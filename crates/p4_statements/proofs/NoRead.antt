@@ -33,7 +33,7 @@ quiet_sign sign {ws = ws} a b c at =
       no_index = ends_index sign ws c at;
     }
 
-put : (Of : Grammar) (ws rest : List Word) → Of ws → MayTake Of (ws ++ rest) rest
+pub put : (Of : Grammar) (ws rest : List Word) → Of ws → MayTake Of (ws ++ rest) rest
 put Of ws rest h = record { front = ws; joined = refl; spelled = h }
 
 touching_begins : {F G : Word → Type 0} {ws : List Word} (rest : List Word) → TwoTouching F G ws → Begins F (ws ++ rest)
@@ -123,7 +123,7 @@ call_no_read : (a : List Word) → Begins (IsSign (codes "(")) (drop 1 a) → Is
 call_no_read a at read =
     elim read.1 [ inl h ↦ not_both (codes "(") (codes "[") (drop 1 a) refl at h.0 | inr h ↦ not_both (codes "(") (codes ".") (drop 1 a) refl at h.0 ]
 
-cast_begins : (depth width : ℕ) (ws rest : List Word) → SpellsCast depth width ws → Begins (IsSign (codes "(")) (ws ++ rest)
+pub cast_begins : (depth width : ℕ) (ws rest : List Word) → SpellsCast depth width ws → Begins (IsSign (codes "(")) (ws ++ rest)
 cast_begins depth width ws rest h = begins_bracketed (codes "(") (codes ")") depth _ (put (SpellsCast depth width) ws rest h)
 
 truth_no_read : (which : Bool) (ws rest : List Word) → SpellsTruth which ws → IsReadAhead (ws ++ rest) → ⊥
@@ -141,7 +141,7 @@ range_quiet (suc depth) high low ws rest h =
       no_index = λ _. number_there high (drop 1 (ws ++ rest)) (begins_first (regroup (behind_first m)));
     }
 
-joined_as : {ws : List Word} (front back rest : List Word) → ws ≡ front ++ back → ws ++ rest ≡ front ++ (back ++ rest)
+pub joined_as : {ws : List Word} (front back rest : List Word) → ws ≡ front ++ back → ws ++ rest ≡ front ++ (back ++ rest)
 joined_as front back rest e = ap (λ l. l ++ rest) e ∙ append_assoc front back rest
 
 mutual

@@ -68,12 +68,12 @@ fn expressions(alloc: Global, reader: &mut Reader<'_>, depth: u32) -> Result<Ite
     ensures few { IfOk result (λ args. All HasFewOperators (seen_exprs args)) }
     ensures only { (more : ℕ) (args : List PlainExpr) (rest : List Word) → MayTake (Separated (Sign (codes ",")) (SpellsExpr more) args) (ahead reader.old) rest → Begins (IsSign (codes ")")) rest → IsReading ((more ≤ depth) × All HasFewOperators args) seen_exprs args rest (ahead reader.new) result }
 {
-    let mut args = Items::new(alloc);
+    let mut exprs = Items::new(alloc);
     let first = read_expr(alloc, reader, depth)?;
-    keep(&mut args, first)?;
-    'args: while reader.eat_sign(b",") {
-        let arg = read_expr(alloc, reader, depth)?;
-        keep(&mut args, arg)?;
+    keep(&mut exprs, first)?;
+    'exprs: while reader.eat_sign(b",") {
+        let next = read_expr(alloc, reader, depth)?;
+        keep(&mut exprs, next)?;
     }
-    Ok(args)
+    Ok(exprs)
 }
