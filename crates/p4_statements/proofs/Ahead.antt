@@ -14,8 +14,8 @@ use Rattle.spelling.proofs.Only.{begins, begins_as, begins_bracketed, begins_fir
 use Rattle.spelling.proofs.Peeling.{past_none}
 use Rattle.p4_expr.specs.Parts.{SpellsHeader, SpellsIndex, SpellsLval, SpellsNoArguments, SpellsRegister}
 use Rattle.p4_expr.specs.Expressions.{SpellsExpr}
-use Rattle.p4_statements.specs.Statements.{SpellsPlain, SpellsValidity}
-use Rattle.p4_statements.specs.Reading.{IsReadAhead, SpellsReadOf}
+use Rattle.p4_statements.specs.Statements.{SpellsApply, SpellsCall, SpellsPlain, SpellsValidity}
+use Rattle.p4_statements.specs.Reading.{IsReadAhead, SpellsReadOf, SpellsSimple}
 
 -- the words behind the first
 pub behind_first : {F : Word → Type 0} {Q : Grammar} {a c : List Word} → MayTake (One F ⨟ Q) a c → MayTake Q (drop 1 a) c
@@ -202,3 +202,109 @@ plain_first more stmt {a = a} m =
 
 pub plain_no_sign : (more : ℕ) (stmt : PlainStmt) (sign : List ℕ) {Q : Grammar} {a c : List Word} → MayTake (SpellsPlain more stmt ⨟ Q) a c → Begins (IsSign sign) a → ⊥
 plain_no_sign more stmt sign {a = a} m at = not_sign sign a (λ word h. ap is_sign h) (plain_first more stmt m) at
+
+index_words : (more : ℕ) (index : Name) {Q : Grammar} {b c : List Word} → MayTake (Bracketed (codes "[") (codes "]") more (λ _. Named index) ⨟ Q) b c → Begins (IsSign (codes "[")) b × Begins (IsSign (codes "]")) (drop 1 (drop 1 b)) × MayTake Q (drop 1 (drop 1 (drop 1 b))) c
+index_words zero index m = absurd (split m).first.spelled
+index_words (suc more) index m =
+    let m0 = regroup m in
+    let m2 = behind_first (regroup (behind_first m0)) in
+    (begins_first m0, begins_first m2, behind_first m2)
+
+-- where a name's call follows, perhaps behind an index
+pub record CallWords (a : List Word) : Type 0 where
+  pub told : Begins (IsSign (codes "(")) (drop 1 a) ⊎ (Begins (IsSign (codes "[")) (drop 1 a) × Begins (IsSign (codes "(")) (drop 4 a))
+
+call_of : (more : ℕ) (index : Option Name) (Between : ℕ → Grammar) {Q : Grammar} {a c : List Word} → MayTake (SpellsIndex more index ⨟ Bracketed (codes "(") (codes ")") more Between ⨟ Q) (drop 1 a) c → CallWords a
+call_of more None Between m = record { told = inl (begins_bracketed (codes "(") (codes ")") more Between (split (past_none m)).first) }
+call_of more (Some index) Between {a = a} m =
+    let w = index_words more index m in
+    record { told = inr (w.0, at_fourth (Begins (IsSign (codes "("))) a (begins_bracketed (codes "(") (codes ")") more Between (split w.2).first)) }
+
+pub call_words : (more : ℕ) (action : Name) (index : Option Name) (args : List PlainExpr) {a c : List Word} → MayTake (SpellsCall more action index args) a c → CallWords a
+call_words more action index args m = call_of more index _ (behind_first m)
+
+-- the words of a write
+write_of : (more : ℕ) (index : Option Name) {Q : Grammar} (a : List Word) {c : List Word} → MayTake (SpellsIndex more index ⨟ Sign (codes ".") ⨟ Named (codes "write") ⨟ Q) (drop 1 a) c → (Begins (IsSign (codes ".")) (drop 1 a) × Begins (IsNamed (codes "write")) (drop 2 a)) ⊎ (Begins (IsSign (codes "[")) (drop 1 a) × Begins (IsSign (codes "]")) (drop 3 a) × Begins (IsSign (codes ".")) (drop 4 a))
+write_of more None a m =
+    let m1 = past_none m in
+    inl (begins_first m1, at_second (Begins (IsNamed (codes "write"))) a (begins_first (behind_first m1)))
+write_of more (Some index) a m =
+    let w = index_words more index m in
+    inr (w.0, at_third (Begins (IsSign (codes "]"))) a w.1, at_fourth (Begins (IsSign (codes "."))) a (begins_first w.2))
+
+-- no plain statement is a call, nor an application
+pub record NoCall (a : List Word) : Type 0 where
+  pub plain : Begins (IsSign (codes "(")) (drop 1 a) → ⊥
+  pub index : Begins (IsSign (codes "[")) (drop 1 a) → Begins (IsSign (codes "(")) (drop 4 a) → ⊥
+  pub apply : Begins (IsNamed (codes "apply")) (drop 2 a) → Begins (IsSign (codes "(")) (drop 3 a) → ⊥
+
+place_none : {a : List Word} → PlaceAhead a → NoCall a
+place_none {a = a} p =
+    record {
+      plain = not_both (codes ".") (codes "(") (drop 1 a) refl p.dot;
+      index = λ at _. place_no_index p at;
+      apply = λ _ at. place_no_call p at;
+    }
+
+write_none : (a : List Word) → (Begins (IsSign (codes ".")) (drop 1 a) × Begins (IsNamed (codes "write")) (drop 2 a)) ⊎ (Begins (IsSign (codes "[")) (drop 1 a) × Begins (IsSign (codes "]")) (drop 3 a) × Begins (IsSign (codes ".")) (drop 4 a)) → NoCall a
+write_none a (inl h) =
+    record {
+      plain = not_both (codes ".") (codes "(") (drop 1 a) refl h.0;
+      index = λ at _. not_both (codes ".") (codes "[") (drop 1 a) refl h.0 at;
+      apply = λ at _. other_text (codes "write") (codes "apply") (drop 2 a) refl (λ word h. h.1) (λ word h. h.1) h.1 at;
+    }
+write_none a (inr h) =
+    record {
+      plain = not_both (codes "[") (codes "(") (drop 1 a) refl h.0;
+      index = λ _ at. not_both (codes ".") (codes "(") (drop 4 a) refl h.2 at;
+      apply = λ _ at. not_both (codes "]") (codes "(") (drop 3 a) refl h.1 at;
+    }
+
+validity_none : {a : List Word} → ValidityAhead a → NoCall a
+validity_none {a = a} v =
+    record {
+      plain = not_both (codes ".") (codes "(") (drop 1 a) refl v.dot;
+      index = λ at _. validity_no_index v at;
+      apply = λ _ at. validity_no_call v at;
+    }
+
+pub plain_none : (more : ℕ) (stmt : PlainStmt) {a c : List Word} → MayTake (SpellsPlain more stmt) a c → NoCall a
+plain_none more stmt {a = a} m =
+    by_plain more (λ _. NoCall a) stmt m
+    (λ to value f. place_none (place_ahead more to f))
+    (λ to register cell f. place_none (place_ahead more to f))
+    (λ register cell value f. write_none a (write_of more register.index a (behind_first (regroup f))))
+    (λ header on f. validity_none (validity_ahead more header on f))
+
+-- nor is an application a call
+pub apply_words : (more : ℕ) (table : Name) {a c : List Word} → MayTake (SpellsApply more table) a c → Begins (IsSign (codes ".")) (drop 1 a) × Begins (IsNamed (codes "apply")) (drop 2 a) × Begins (IsSign (codes "(")) (drop 3 a)
+apply_words more table {a = a} m =
+    let m1 = behind_first m in
+    let m2 = behind_first m1 in
+    let m3 = behind_first m2 in
+    (begins_first m1, at_second (Begins (IsNamed (codes "apply"))) a (begins_first m2), at_third (Begins (IsSign (codes "("))) a (begins_bracketed (codes "(") (codes ")") more _ (split m3).first))
+
+-- by its form
+pub by_simple : (more : ℕ) (Answer : PlainStmt → Type 0) (stmt : PlainStmt) {a c : List Word} → MayTake (SpellsSimple more stmt) a c → ((action : Name) (index : Option Name) (args : List PlainExpr) → MayTake (SpellsCall more action index args) a c → Answer (PlainStmt.Call action index args)) → ((table : Name) → MayTake (SpellsApply more table) a c → Answer (PlainStmt.Apply table)) → ((plain : PlainStmt) → MayTake (SpellsPlain more plain) a c → Answer plain) → Answer stmt
+by_simple more Answer (PlainStmt.Call action index args) m f g h = f action index args m
+by_simple more Answer (PlainStmt.Apply table) m f g h = g table m
+by_simple more Answer (PlainStmt.Assign to value) m f g h = h (PlainStmt.Assign to value) m
+by_simple more Answer (PlainStmt.Read to register cell) m f g h = h (PlainStmt.Read to register cell) m
+by_simple more Answer (PlainStmt.Write register cell value) m f g h = h (PlainStmt.Write register cell value) m
+by_simple more Answer (PlainStmt.Valid header on) m f g h = h (PlainStmt.Valid header on) m
+by_simple more Answer (PlainStmt.Block stage body) m f g h = absurd m.spelled
+by_simple more Answer (PlainStmt.If condition body) m f g h = absurd m.spelled
+by_simple more Answer (PlainStmt.IfElse condition body other) m f g h = absurd m.spelled
+by_simple more Answer (PlainStmt.For index size body) m f g h = absurd m.spelled
+
+pub plain_simple : (depth : ℕ) (stmt : PlainStmt) (ws : List Word) → SpellsPlain depth stmt ws → SpellsSimple depth stmt ws
+plain_simple depth (PlainStmt.Call action index args) ws h = absurd h
+plain_simple depth (PlainStmt.Apply table) ws h = absurd h
+plain_simple depth (PlainStmt.Assign to value) ws h = h
+plain_simple depth (PlainStmt.Read to register cell) ws h = h
+plain_simple depth (PlainStmt.Write register cell value) ws h = h
+plain_simple depth (PlainStmt.Valid header on) ws h = h
+plain_simple depth (PlainStmt.Block stage body) ws h = h
+plain_simple depth (PlainStmt.If condition body) ws h = h
+plain_simple depth (PlainStmt.IfElse condition body other) ws h = h
+plain_simple depth (PlainStmt.For index size body) ws h = h

@@ -4,3 +4,5 @@ pub mod NoRead
 pub mod Lists
 pub mod ExprFirst
 pub mod Arguments
+pub mod Heads
+pub mod Forms

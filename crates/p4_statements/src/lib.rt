@@ -4,7 +4,9 @@
 mod brackets;
 mod calls;
 mod plain;
+mod simple;
+mod statement;
 
 pub use brackets::bracketed;
-pub use calls::{apply, call};
-pub use plain::{plain_statement, plain_statements};
+pub use plain::plain_statements;
+pub use statement::statements;

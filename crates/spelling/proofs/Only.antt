@@ -220,3 +220,6 @@ not_there test stands = false≢true (test stands)
 -- a word is one number
 pub same_number : {n k : ℕ} {a b c : List Word} → MayTake (Num n) a c → Takes (Num k) a b → k ≡ n
 same_number {n = n} {k = k} m t = let e = same_word m t in let f : m.spelled.word.kind ≡ kind.Number None n = m.spelled.is_this in let g : t.spelled.word.kind ≡ kind.Number None k = t.spelled.is_this in cc
+
+pub number_same : {n k : ℕ} {Q : Grammar} {a b c : List Word} → MayTake (Num n ⨟ Q) a c → Takes (Num k) a b → k ≡ n
+number_same m t = same_number (split m).first t

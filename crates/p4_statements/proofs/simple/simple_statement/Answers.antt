@@ -1,0 +1,46 @@
+use Rattle.std.proofs.Common.{ap, codes, refl, sym, subst, ◌∙◌}
+use Rattle.std.proofs.lemmas.List.Elements.{All-cons, All-head, All-nil, All-tail}
+use Rattle.elastic_ast.specs.Seen.{seen_expr, seen_exprs}
+use Rattle.elastic_ast.specs.SeenLaws.{seen_stmt-apply, seen_stmt-assign, seen_stmt-call, seen_stmt-read, seen_stmt-valid, seen_stmt-write}
+use Rattle.elastic_ast.specs.Tree.{PlainExpr, PlainStmt}
+use Rattle.spelling.specs.Grammar.{◌⨟◌, Sign}
+use Rattle.spelling.specs.Reading.{Takes, IsReading, ahead}
+use Rattle.spelling.proofs.Only.{after, after_one, alone, begins, begins_first, ends_sign, named_same, regroup, same_end, split, wants, wants_name, wants_one}
+use Rattle.spelling.proofs.Taking.{may, may_takes, takes_both, takes_bracketed, takes_may}
+use Rattle.spelling.proofs.Limits.{answer_reading, inside, inside_then, opens_or, or_answers, or_as, want_or}
+use Rattle.p4_expr.specs.Expressions.{HasFewOperators, SpellsExpr}
+use Rattle.p4_expr.specs.GoesOn.{expression_signs}
+use Rattle.p4_expr.proofs.PartSpelling.{ends_index}
+use Rattle.p4_statements.specs.Statements.{SpellsPlain}
+use Rattle.p4_statements.specs.Reading.{HasFew, SpellsSimple}
+use Rattle.std.proofs.Common.{◌≤◌, drop, inl, inr}
+use Rattle.elastic_ast.specs.Seen.{seen_stmt}
+use Rattle.spelling.proofs.Limits.{reading_as}
+use Rattle.spelling.proofs.Only.{not_there}
+use Rattle.spelling.proofs.Taking.{takes_as}
+use Rattle.p4_statements.proofs.Ahead.{apply_words, by_simple, call_words, if_ok_as, not_both, not_true, plain_none, plain_simple}
+use Rattle.p4_statements.proofs.simple.simple_statement.Goals as goal
+
+pub returns-then-is_at_call-clause-only : goal.returns-then-is_at_call-clause-only
+returns-then-is_at_call-clause-only c = λ more stmt rest m.
+    by_simple more (λ s. IsReading ((more ≤ c.args.depth) × HasFew s) seen_stmt s rest (ahead c.call.new.reader) c.call.result) stmt m
+    (λ action index args f. c.call.ensures.only more action index args rest f)
+    (λ table f. let w = apply_words more table f in absurd (c.if-is_at_call.ensures.none refl (λ at. not_both (codes ".") (codes "(") (drop 1 (ahead c.args.reader.now)) refl w.0 at) (λ at _. not_both (codes ".") (codes "[") (drop 1 (ahead c.args.reader.now)) refl w.0 at)))
+    (λ plain f. let n = plain_none more plain f in absurd (c.if-is_at_call.ensures.none refl n.plain n.index))
+
+pub returns-then-is_at_apply-clause-only : goal.returns-then-is_at_apply-clause-only
+returns-then-is_at_apply-clause-only c = λ more stmt rest m.
+    by_simple more (λ s. IsReading ((more ≤ c.args.depth) × HasFew s) seen_stmt s rest (ahead c.apply.new.reader) c.apply.result) stmt m
+    (λ action index args f. let w = call_words more action index args f in absurd (elim w.told [ inl h ↦ not_true (c.if-is_at_call.ensures.plain h) | inr h ↦ not_true (c.if-is_at_call.ensures.index h.0 h.1) ]))
+    (λ table f. reading_as _ _ _ _ _ _ _ (λ few. few.0) (c.apply.ensures.only more table rest f))
+    (λ plain f. let n = plain_none more plain f in let at = c.if-is_at_apply.ensures.0 refl in absurd (n.apply at.0 at.1))
+
+pub returns-clause-taken : goal.returns-clause-taken
+returns-clause-taken c = if_ok_as (λ s. Takes (SpellsPlain c.args.depth (seen_stmt s)) (ahead c.args.reader.now) (ahead c.plain_statement.new.reader)) _ _ (λ s t. takes_as (plain_simple c.args.depth (seen_stmt s)) t) c.plain_statement.ensures.taken
+
+pub returns-clause-only : goal.returns-clause-only
+returns-clause-only c = λ more stmt rest m.
+    by_simple more (λ s. IsReading ((more ≤ c.args.depth) × HasFew s) seen_stmt s rest (ahead c.plain_statement.new.reader) c.plain_statement.result) stmt m
+    (λ action index args f. let w = call_words more action index args f in absurd (elim w.told [ inl h ↦ not_true (c.if-is_at_call.ensures.plain h) | inr h ↦ not_true (c.if-is_at_call.ensures.index h.0 h.1) ]))
+    (λ table f. let w = apply_words more table f in absurd (not_there c.if-is_at_apply.ensures.1 (w.1, w.2)))
+    (λ plain f. c.plain_statement.ensures.only more plain rest f)
