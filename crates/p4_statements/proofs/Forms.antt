@@ -10,7 +10,7 @@ use Rattle.spelling.proofs.Peeling.{past_none}
 use Rattle.spelling.proofs.Taking.{takes_as, takes_both}
 use Rattle.p4_statements.specs.Statements.{SpellsApply, SpellsBranch, SpellsCall, SpellsCondition, SpellsPlain, SpellsStage, SpellsStmt, SpellsStmts, SpellsTurns, is_bare_block, block, without_else, with_else, repeated, called, applied, simple, in_brackets, alone as one_statement}
 use Rattle.p4_statements.specs.Reading.{EndsStmt, SpellsSimple}
-use Rattle.p4_statements.proofs.Ahead.{not_both, plain_first, plain_simple}
+use Rattle.p4_statements.proofs.Ahead.{by_simple, not_both, plain_first, plain_simple}
 
 -- words in a row
 row_of_four : {ws : List Word} (a b c d : List Word) → ws ≡ a ++ (b ++ (c ++ d)) → ws ≡ a ++ b ++ c ++ d
@@ -234,3 +234,93 @@ stmt_no_else more open_end stmt {a = a} m at =
     | a_for p w ↦ other_text (codes "for") (codes "else") a refl (λ word h. h.1) (λ word h. h.1) w at
     | a_simple p w ↦ name_no_reserved (codes "else") a w at
     ]
+
+plain_bare : (depth : ℕ) (stmt : PlainStmt) (ws : List Word) → SpellsPlain depth stmt ws → is_bare_block stmt ≡ false
+plain_bare depth (PlainStmt.Assign to value) ws h = refl
+plain_bare depth (PlainStmt.Read to register cell) ws h = refl
+plain_bare depth (PlainStmt.Write register cell value) ws h = refl
+plain_bare depth (PlainStmt.Valid header on) ws h = refl
+plain_bare depth (PlainStmt.Block stage body) ws h = absurd h
+plain_bare depth (PlainStmt.If condition body) ws h = refl
+plain_bare depth (PlainStmt.IfElse condition body other) ws h = refl
+plain_bare depth (PlainStmt.For index size body) ws h = refl
+plain_bare depth (PlainStmt.Call action index args) ws h = refl
+plain_bare depth (PlainStmt.Apply table) ws h = refl
+
+-- a block's first word says whether it has a stage
+staged_bare : (more : ℕ) (stage : Option ℕ) (body : PlainStmts) {a c : List Word} → MayTake (SpellsStage more stage ⨟ Braces more body) a c → (Begins (IsSign (codes "{")) a → ⊥) → is_bare_block (PlainStmt.Block stage body) ≡ false
+staged_bare more None body m none = absurd (none (braces_begin more body (past_none m)))
+staged_bare more (Some stage) body m none = refl
+
+bare_staged : (more : ℕ) (stage : Option ℕ) (body : PlainStmts) {a c : List Word} → MayTake (SpellsStage more stage ⨟ Braces more body) a c → is_bare_block (PlainStmt.Block stage body) ≡ false → Begins (IsSign (codes "{")) a → ⊥
+bare_staged more None body m other at = absurd cc
+bare_staged more (Some stage) body {a = a} m other at =
+    let s = (split m).first in
+    let stage_sign : Begins (IsSign (codes "@")) a = begins_first record { front = s.front; joined = s.joined; spelled = s.spelled.1 } in
+    not_both (codes "@") (codes "{") a refl stage_sign at
+
+simple_bare : (depth : ℕ) (stmt : PlainStmt) {a c : List Word} → MayTake (SpellsSimple depth stmt) a c → is_bare_block stmt ≡ false
+simple_bare depth stmt m = by_simple depth (λ s. is_bare_block s ≡ false) stmt m (λ action index args f. refl) (λ table f. refl) (λ plain f. plain_bare depth plain f.front f.spelled)
+
+bare_of : (depth : ℕ) (open_end : Bool) (stmt : PlainStmt) {a c : List Word} → Form depth open_end stmt a c → (Begins (IsSign (codes "{")) a → ⊥) → is_bare_block stmt ≡ false
+bare_of depth open_end stmt (a_block p w) none = ap is_bare_block p.is ∙ staged_bare depth p.stage p.body p.parts none
+bare_of depth open_end stmt (an_if p w) none = ap is_bare_block p.is
+bare_of depth open_end stmt (an_else p w) none = ap is_bare_block p.is
+bare_of depth open_end stmt (a_for p w) none = ap is_bare_block p.is
+bare_of depth open_end stmt (a_simple p w) none = simple_bare depth stmt p
+
+no_brace_of : (depth : ℕ) (open_end : Bool) (stmt : PlainStmt) {a c : List Word} → Form depth open_end stmt a c → is_bare_block stmt ≡ false → Begins (IsSign (codes "{")) a → ⊥
+no_brace_of depth open_end stmt (a_block p w) other at = bare_staged depth p.stage p.body p.parts (sym (ap is_bare_block p.is) ∙ other) at
+no_brace_of depth open_end stmt {a = a} (an_if p w) other at = reserved_no_sign_there (codes "if") (codes "{") a w at
+no_brace_of depth open_end stmt {a = a} (an_else p w) other at = reserved_no_sign_there (codes "if") (codes "{") a w at
+no_brace_of depth open_end stmt {a = a} (a_for p w) other at = reserved_no_sign_there (codes "for") (codes "{") a w at
+no_brace_of depth open_end stmt {a = a} (a_simple p w) other at = name_no_sign (codes "{") a w at
+
+pub record AloneParts (more : ℕ) (open_end : Bool) (stmts : PlainStmts) (a c : List Word) : Type 0 where
+  pub inner : ℕ
+  pub stmt : PlainStmt
+  pub deeper : more ≡ suc inner
+  pub is : stmts ≡ PlainStmts.cons stmt PlainStmts.nil
+  pub parts : MayTake (SpellsStmt inner open_end stmt) a c
+
+braces_in : (more : ℕ) (open_end : Bool) (stmts : PlainStmts) {a c : List Word} (ws : List Word) → a ≡ ws ++ c → SpellsBranch more open_end stmts ws → Begins (IsSign (codes "{")) a → MayTake (Braces more stmts) a c
+braces_in zero open_end stmts ws e h at = elim h [ ]
+braces_in (suc depth) open_end stmts ws e (in_brackets opening inside closing o i cl j) at =
+    record {
+      front = ws;
+      joined = e;
+      spelled = record { front = opening; back = inside ++ closing; joined = j ∙ append_assoc opening inside closing; first = o; second = record { front = inside; back = closing; joined = refl; first = i; second = cl } };
+    }
+braces_in (suc depth) open_end stmts {a = a} {c = c} ws e (one_statement {stmt = stmt} other h) at =
+    let m : MayTake (SpellsStmt depth open_end stmt) a c = record { front = ws; joined = e; spelled = h } in
+    absurd (no_brace_of depth open_end stmt (stmt_form depth open_end stmt m) other at)
+
+alone_in : (more : ℕ) (open_end : Bool) (stmts : PlainStmts) {a c : List Word} (ws : List Word) → a ≡ ws ++ c → SpellsBranch more open_end stmts ws → (Begins (IsSign (codes "{")) a → ⊥) → AloneParts more open_end stmts a c
+alone_in zero open_end stmts ws e h none = elim h [ ]
+alone_in (suc depth) open_end stmts {a = a} {c = c} ws e (in_brackets opening inside closing o i cl j) none =
+    let m : MayTake (Sign (codes "{") ⨟ SpellsStmts depth stmts ⨟ Sign (codes "}")) a c = record {
+      front = ws;
+      joined = e;
+      spelled = record { front = opening; back = inside ++ closing; joined = j ∙ append_assoc opening inside closing; first = o; second = record { front = inside; back = closing; joined = refl; first = i; second = cl } };
+    } in
+    absurd (none (begins_first m))
+alone_in (suc depth) open_end stmts ws e (one_statement {stmt = stmt} other h) none =
+    record { inner = depth; stmt = stmt; deeper = refl; is = refl; parts = record { front = ws; joined = e; spelled = h } }
+
+-- a branch that stands in braces, and one that doesn't
+pub braces_there : (more : ℕ) (open_end : Bool) (stmts : PlainStmts) {a c : List Word} → MayTake (SpellsBranch more open_end stmts) a c → Begins (IsSign (codes "{")) a → MayTake (Braces more stmts) a c
+braces_there more open_end stmts m at = braces_in more open_end stmts m.front m.joined m.spelled at
+
+pub alone_there : (more : ℕ) (open_end : Bool) (stmts : PlainStmts) {a c : List Word} → MayTake (SpellsBranch more open_end stmts) a c → (Begins (IsSign (codes "{")) a → ⊥) → AloneParts more open_end stmts a c
+alone_there more open_end stmts m none = alone_in more open_end stmts m.front m.joined m.spelled none
+
+-- what begins without a brace is no block without a stage
+pub no_bare : (depth : ℕ) (open_end : Bool) (stmt : PlainStmt) {a c : List Word} → MayTake (SpellsStmt depth open_end stmt) a c → (Begins (IsSign (codes "{")) a → ⊥) → is_bare_block stmt ≡ false
+no_bare depth open_end stmt m none = bare_of depth open_end stmt (stmt_form depth open_end stmt m) none
+
+pub one_of : (depth : ℕ) (open_end : Bool) (stmt : PlainStmt) → is_bare_block stmt ≡ false → (ws : List Word) → SpellsStmt depth open_end stmt ws → SpellsBranch (suc depth) open_end (PlainStmts.cons stmt PlainStmts.nil) ws
+one_of depth open_end stmt other ws h = one_statement other h
+
+pub closed_end : (open_end : Bool) (ws : List Word) → EndsStmt open_end ws → Begins (IsReserved (codes "else")) ws → open_end ≡ false
+closed_end true ws ends at = absurd (ends refl at)
+closed_end false ws ends at = refl

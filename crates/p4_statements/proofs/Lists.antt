@@ -1,15 +1,17 @@
 -- A list of statements as a list of the library, and how few operators the expressions of its statements have.
-use Rattle.std.proofs.Common.{◌≡◌, ℕ, List, [], ◌∷◌, ◌++◌, All, refl, ap, sym, subst, ◌∙◌}
+use Rattle.std.proofs.Common.{◌≡◌, ℕ, Bool, List, [], ◌∷◌, ◌++◌, All, codes, refl, ap, sym, subst, ◌∙◌}
 use Rattle.std.proofs.lemmas.List.Elements.{All-append, All-cons, All-head, All-nil, All-tail}
 use Rattle.elastic_ast.specs.Seen.{joined}
 use Rattle.elastic_ast.specs.Tree.{PlainExpr, PlainStmt, PlainStmts}
 use Rattle.spelling.specs.Words.{Word}
-use Rattle.spelling.specs.Grammar.{Each}
+use Rattle.spelling.specs.Grammar.{Grammar, Begins, Each, IsReserved, IsSign}
 use Rattle.spelling.specs.Reading.{MayTake}
+use Rattle.spelling.proofs.Only.{empty_same, not_sign, reserved_no_sign, split}
 use Rattle.p4_expr.specs.Expressions.{HasFewOperators}
 use Rattle.p4_statements.specs.ExpressionsIn.{expressions_of, expressions_of_all}
-use Rattle.p4_statements.specs.Reading.{HasFew, HaveFew}
-use Rattle.p4_statements.specs.Statements.{SpellsPlain, SpellsPlains}
+use Rattle.p4_statements.specs.Reading.{HasFew, HaveFew, TakesToEnd}
+use Rattle.p4_statements.specs.Statements.{SpellsPlain, SpellsPlains, SpellsStmt, SpellsStmts, no_more, one_more}
+use Rattle.p4_statements.proofs.Forms.{stmt_no_else}
 
 abbrev pub listed : PlainStmts → List PlainStmt
 listed PlainStmts.nil = []
@@ -54,3 +56,44 @@ take_plains depth ss m = record { front = m.front; joined = m.joined; spelled = 
 
 pub take_listed : (depth : ℕ) (ss : PlainStmts) {a c : List Word} → MayTake (SpellsPlains depth ss) a c → MayTake (Each (SpellsPlain depth) (listed ss)) a c
 take_listed depth ss m = record { front = m.front; joined = m.joined; spelled = plains_each depth ss m.front m.spelled }
+
+-- a statement whose end is open or not
+abbrev pub SpellsAny : ℕ → PlainStmt → Grammar
+SpellsAny depth stmt ws = (open_end : Bool) × SpellsStmt depth open_end stmt ws
+
+stmts_each : (depth : ℕ) (ss : PlainStmts) (ws : List Word) → SpellsStmts depth ss ws → Each (SpellsAny depth) (listed ss) ws
+stmts_each depth PlainStmts.nil ws no_more = refl
+stmts_each depth (PlainStmts.cons s ss) ws (one_more {open_end = open_end} front back h k j) = record { front = front; back = back; joined = j; first = (open_end, h); second = stmts_each depth ss back k }
+
+each_stmts : (depth : ℕ) (ss : List PlainStmt) (ws : List Word) → Each (SpellsAny depth) ss ws → SpellsStmts depth (joined ss) ws
+each_stmts depth [] ws h = subst (SpellsStmts depth PlainStmts.nil) (sym h) no_more
+each_stmts depth (s ∷ ss) ws h = one_more h.front h.back h.first.1 (each_stmts depth ss h.back h.second) h.joined
+
+pub take_stmts : (depth : ℕ) (ss : List PlainStmt) {a c : List Word} → MayTake (Each (SpellsAny depth) ss) a c → MayTake (SpellsStmts depth (joined ss)) a c
+take_stmts depth ss m = record { front = m.front; joined = m.joined; spelled = each_stmts depth ss m.front m.spelled }
+
+pub list_stmts : (depth : ℕ) (ss : PlainStmts) {a c : List Word} → MayTake (SpellsStmts depth ss) a c → MayTake (Each (SpellsAny depth) (listed ss)) a c
+list_stmts depth ss m = record { front = m.front; joined = m.joined; spelled = stmts_each depth ss m.front m.spelled }
+
+pub any_end : {depth : ℕ} {stmt : PlainStmt} {a b : List Word} → TakesToEnd (λ open_end. SpellsStmt depth open_end stmt) a b → MayTake (SpellsAny depth stmt) a b
+any_end t = record { front = t.taken.front; joined = t.taken.joined; spelled = (t.open_end, t.taken.spelled) }
+
+pub of_any : {depth : ℕ} {stmt : PlainStmt} {a b : List Word} (m : MayTake (SpellsAny depth stmt) a b) → MayTake (SpellsStmt depth m.spelled.0 stmt) a b
+of_any m = record { front = m.front; joined = m.joined; spelled = m.spelled.1 }
+
+-- no `else` follows a statement that others follow up to a closing bracket
+pub no_else_follows : (more : ℕ) (later : List PlainStmt) {a rest : List Word} → MayTake (Each (SpellsAny more) later) a rest → Begins (IsSign (codes "}")) rest → Begins (IsReserved (codes "else")) a → ⊥
+no_else_follows more [] {a = a} {rest = rest} m ends at = not_sign (codes "}") rest (λ word h. reserved_no_sign word.kind h.0) (subst (Begins (IsReserved (codes "else"))) (empty_same m) at) ends
+no_else_follows more (s ∷ later) m ends at = let f = (split m).first in stmt_no_else more f.spelled.0 s (of_any f) at
+
+-- what a statement has few of, its parts have
+pub if_few : (stmt : PlainStmt) (condition : PlainExpr) (body : PlainStmts) → stmt ≡ PlainStmt.If condition body → HasFew stmt → HasFewOperators condition × HaveFew body
+if_few stmt condition body e few =
+    let f = subst HasFew e few in
+    (All-head HasFewOperators condition (expressions_of_all body) f, All-tail HasFewOperators condition (expressions_of_all body) f)
+
+pub else_few : (stmt : PlainStmt) (condition : PlainExpr) (body other : PlainStmts) → stmt ≡ PlainStmt.IfElse condition body other → HasFew stmt → HasFewOperators condition × HaveFew body × HaveFew other
+else_few stmt condition body other e few =
+    let f = subst HasFew e few in
+    let t = All-tail HasFewOperators condition (expressions_of_all body ++ expressions_of_all other) f in
+    (All-head HasFewOperators condition (expressions_of_all body ++ expressions_of_all other) f, all_front HasFewOperators (expressions_of_all body) (expressions_of_all other) t, all_back HasFewOperators (expressions_of_all body) (expressions_of_all other) t)
