@@ -1,3 +1,7 @@
+pub mod Emitting
+pub mod FieldSpelling
+pub mod GainSpelling
+pub mod SameDecls
 pub mod Signs
 pub mod SumSpelling
 pub mod Terms

@@ -1,4 +1,14 @@
 //! The declarations that have no expression in them: which words spell one, and how these are read.
 #![tactic(auto)]
 
+mod emits;
+mod fields;
+mod gains;
+mod package;
+mod reading;
+mod stored;
+mod structs;
 mod sums;
+mod symbols;
+
+pub use reading::flat;
