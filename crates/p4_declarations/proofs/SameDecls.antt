@@ -4,7 +4,7 @@ use Rattle.elastic_ast.specs.Tree.{PlainDecl}
 use Rattle.elastic_ast.specs.declared.declarations.Field.{Field}
 use Rattle.elastic_ast.specs.declared.statements.Amount.{Amount}
 
-pub same_steps : {n k : List ℕ} {s t : List (ℕ × ℕ)} → n ≡ k → s ≡ t → (n, s) ≡ (k, t)
+pub same_steps : {n k : List ℕ} {s t : List (ℕ × ℕ)} → n ≡ k → s ≡ t → ◌≡◌ {A = List ℕ × List (ℕ × ℕ)} (n, s) (k, t)
 same_steps {k = k} {s = s} e f = ap (λ x. (x, s)) e ∙ ap (λ x. (k, x)) f
 
 pub same_constant : {n k : List ℕ} {w v a b : ℕ} → n ≡ k → w ≡ v → a ≡ b → PlainDecl.Const n w a ≡ PlainDecl.Const k v b

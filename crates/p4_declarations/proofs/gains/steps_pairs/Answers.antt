@@ -1,4 +1,4 @@
-use Rattle.std.proofs.Common.{refl, codes}
+use Rattle.std.proofs.Common.{[], ◌∷◌, refl, codes}
 use Rattle.spelling.specs.Grammar.{Separated, Sign}
 use Rattle.spelling.proofs.Limits.{want_or, or_answers, opens_or, past_opening}
 use Rattle.spelling.proofs.Only.{after, alone, begins, ends_sign, same_end, wants, wants_one}
