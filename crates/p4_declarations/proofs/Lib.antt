@@ -1,5 +1,6 @@
 pub mod Emitting
 pub mod FieldSpelling
+pub mod FirstWords
 pub mod GainSpelling
 pub mod SameDecls
 pub mod Signs
