@@ -47,8 +47,8 @@ no_product by None text {a = a} m at =
     false≢true (sym (ap is_reserved b.1) ∙ b.2.0)
 no_product by (Some symbol) text {a = a} m at =
     elim (which m) [
-      inl n ↦ let b = begins_both a (begins (of_where n)) at in false≢true (sym (ap is_reserved b.1.0) ∙ b.2.0)
-    | inr n ↦ let b = begins_both a (begins_first (of_where n)) at in false≢true (sym (ap is_reserved b.1) ∙ b.2.0)
+      | inl n ↦ let b = begins_both a (begins (of_where n)) at in false≢true (sym (ap is_reserved b.1.0) ∙ b.2.0)
+      | inr n ↦ let b = begins_both a (begins_first (of_where n)) at in false≢true (sym (ap is_reserved b.1) ∙ b.2.0)
     ]
 
 -- a term that begins with this reserved word is one of steps

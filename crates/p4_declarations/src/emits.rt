@@ -53,11 +53,7 @@ fn parameter_words(reader: &mut Reader<'_>) -> Result<(), SyntaxError>
 }
 
 /// `{ apply { EMITS } }`
-fn body(
-    alloc: Global,
-    reader: &mut Reader<'_>,
-    depth: u32,
-) -> Result<Items<Name>, SyntaxError>
+fn body(alloc: Global, reader: &mut Reader<'_>, depth: u32) -> Result<Items<Name>, SyntaxError>
     ensures taken { IfOk result (λ emits. Takes (Bracketed (codes "{") (codes "}") depth (λ inner. Named (codes "apply") ⨟ Bracketed (codes "{") (codes "}") inner (λ innermost. Each (SpellsEmit innermost) emits))) (ahead reader.old) (ahead reader.new)) }
     ensures only { (more : ℕ) (emits : List (List ℕ)) (rest : List Word) → MayTake (Bracketed (codes "{") (codes "}") more (λ inner. Named (codes "apply") ⨟ Bracketed (codes "{") (codes "}") inner (λ innermost. Each (SpellsEmit innermost) emits))) (ahead reader.old) rest → IsReading (more ≤ depth) (λ read. read) emits rest (ahead reader.new) result }
 {
@@ -84,11 +80,7 @@ fn emit_block(
 }
 
 /// Reads the headers that are emitted, and stops at the closing bracket.
-fn emits(
-    alloc: Global,
-    reader: &mut Reader<'_>,
-    depth: u32,
-) -> Result<Items<Name>, SyntaxError>
+fn emits(alloc: Global, reader: &mut Reader<'_>, depth: u32) -> Result<Items<Name>, SyntaxError>
     ensures taken { IfOk result (λ emits. MayTake (Each (SpellsEmit depth) emits) (ahead reader.old) (ahead reader.new)) }
     ensures only { (more : ℕ) (emits : List (List ℕ)) (rest : List Word) → MayTake (Each (SpellsEmit more) emits) (ahead reader.old) rest → Begins (IsSign (codes "}")) rest → IsReading (more ≤ depth) (λ read. read) emits rest (ahead reader.new) result }
 {

@@ -41,11 +41,7 @@ fn goes_on(reader: &Reader<'_>) -> bool
 }
 
 /// Reads the first term, which has no sign.
-fn first_gain(
-    alloc: Global,
-    reader: &mut Reader<'_>,
-    depth: u32,
-) -> Result<UtilTerm, SyntaxError>
+fn first_gain(alloc: Global, reader: &mut Reader<'_>, depth: u32) -> Result<UtilTerm, SyntaxError>
     ensures taken { IfOk result (λ gain. Takes (SpellsFirstGain depth gain) (ahead reader.old) (ahead reader.new)) }
     ensures only { (more : ℕ) (gain : UtilTerm) (rest : List Word) → MayTake (SpellsFirstGain more gain) (ahead reader.old) rest → Ends product_signs rest → IsReading (more ≤ depth) (λ read. read) gain rest (ahead reader.new) result }
 {
@@ -62,11 +58,7 @@ fn first_gain(
 }
 
 /// Reads a term with its sign.
-fn later_gain(
-    alloc: Global,
-    reader: &mut Reader<'_>,
-    depth: u32,
-) -> Result<UtilTerm, SyntaxError>
+fn later_gain(alloc: Global, reader: &mut Reader<'_>, depth: u32) -> Result<UtilTerm, SyntaxError>
     ensures taken { IfOk result (λ gain. Takes (SpellsLaterGain depth gain) (ahead reader.old) (ahead reader.new)) }
     ensures only { (more : ℕ) (gain : UtilTerm) (rest : List Word) → MayTake (SpellsLaterGain more gain) (ahead reader.old) rest → Ends product_signs rest → IsReading (more ≤ depth) (λ read. read) gain rest (ahead reader.new) result }
 {

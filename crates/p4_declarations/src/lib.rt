@@ -10,5 +10,7 @@ mod stored;
 mod structs;
 mod sums;
 mod symbols;
+#[cfg(test)]
+mod tests;
 
 pub use reading::flat;

@@ -66,11 +66,7 @@ pub fn register(alloc: Global, reader: &mut Reader<'_>, depth: u32) -> Result<De
 }
 
 /// `(CELLS)`
-fn register_cells(
-    alloc: Global,
-    reader: &mut Reader<'_>,
-    depth: u32,
-) -> Result<Amount, SyntaxError>
+fn register_cells(alloc: Global, reader: &mut Reader<'_>, depth: u32) -> Result<Amount, SyntaxError>
     ensures taken { IfOk result (λ cells. Takes (Bracketed (codes "(") (codes ")") depth (λ _. SpellsAmount cells)) (ahead reader.old) (ahead reader.new)) }
     ensures only { (more : ℕ) (cells : Amount) (rest : List Word) → MayTake (Bracketed (codes "(") (codes ")") more (λ _. SpellsAmount cells)) (ahead reader.old) rest → IsReading (more ≤ depth) (λ read. read) cells rest (ahead reader.new) result }
 {

@@ -53,11 +53,7 @@ pub fn maximize(alloc: Global, reader: &mut Reader<'_>, depth: u32) -> Result<De
 }
 
 /// `(COMPARISONS)`
-fn assumed(
-    alloc: Global,
-    reader: &mut Reader<'_>,
-    depth: u32,
-) -> Result<Items<Comp>, SyntaxError>
+fn assumed(alloc: Global, reader: &mut Reader<'_>, depth: u32) -> Result<Items<Comp>, SyntaxError>
     ensures taken { IfOk result (λ comps. Takes (Bracketed (codes "(") (codes ")") depth (λ _. SpellsComparisons comps)) (ahead reader.old) (ahead reader.new)) }
     ensures only { (more : ℕ) (comps : List Comp) (rest : List Word) → MayTake (Bracketed (codes "(") (codes ")") more (λ _. SpellsComparisons comps)) (ahead reader.old) rest → IsReading (more ≤ depth) (λ read. read) comps rest (ahead reader.new) result }
 {

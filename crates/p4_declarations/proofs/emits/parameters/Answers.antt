@@ -15,16 +15,16 @@ returns-in_err-_inner-clause-only c = λ more rest m.
 pub returns-in_err-parameter_words-clause-only : goal.returns-in_err-parameter_words-clause-only
 returns-in_err-parameter_words-clause-only c = λ more rest m.
     let i = past_opening (codes "(") (codes ")") more c.args.depth c.in_ok-_inner._inner (λ _. SpellsDeparserParameters) c.in_ok-_inner.ensures.depth c.in_ok-_inner.ensures.taken m in
-    or_answers _ _ _ _ _ _ c.from_residual-in_err-parameter_words.result c.from_residual-in_err-parameter_words.ensures.1 (want_or _ _ (wants i.parts (λ b f s. c.in_err-parameter_words.ensures.only  b f)))
+    or_answers _ _ _ _ _ _ c.from_residual-in_err-parameter_words.result c.from_residual-in_err-parameter_words.ensures.1 (want_or _ _ (wants i.parts (λ b f s. c.in_err-parameter_words.ensures.only b f)))
 
 pub returns-in_err-sign-clause-only : goal.returns-in_err-sign-clause-only
 returns-in_err-sign-clause-only c = λ more rest m.
     let i = past_opening (codes "(") (codes ")") more c.args.depth c.in_ok-_inner._inner (λ _. SpellsDeparserParameters) c.in_ok-_inner.ensures.depth c.in_ok-_inner.ensures.taken m in
-    let m2 = after i.parts (λ b f s. c.in_ok-parameter_words.ensures.only  b f) in
+    let m2 = after i.parts (λ b f s. c.in_ok-parameter_words.ensures.only b f) in
     or_answers _ _ _ _ _ _ c.from_residual-in_err-sign.result c.from_residual-in_err-sign.ensures.1 (want_or _ _ (wants_one _ _ (alone m2.1) c.in_err-sign.ensures.refused))
 
 pub returns-clause-only : goal.returns-clause-only
 returns-clause-only c = λ more rest m.
     let i = past_opening (codes "(") (codes ")") more c.args.depth c.in_ok-_inner._inner (λ _. SpellsDeparserParameters) c.in_ok-_inner.ensures.depth c.in_ok-_inner.ensures.taken m in
-    let m2 = after i.parts (λ b f s. c.in_ok-parameter_words.ensures.only  b f) in
+    let m2 = after i.parts (λ b f s. c.in_ok-parameter_words.ensures.only b f) in
     (refl, same_end m2.1 c.in_ok-sign.ensures.taken)

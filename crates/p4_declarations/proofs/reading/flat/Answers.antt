@@ -35,15 +35,17 @@ returns-then-is_at_reserved-3-clause-only c = λ more decl rest m.
 
 pub returns-then-is_at_name-3-clause-only : goal.returns-then-is_at_name-3-clause-only
 returns-then-is_at_name-3-clause-only c = λ more decl rest m.
-    by_first (λ d. IsReading (more ≤ c.args.depth) seen_decl d rest (ahead c.meta.new.reader) c.meta.result) more decl First.by_struct m (at_reserved (ahead c.args.reader.now) (c.if-is_at_reserved-4.ensures.0 refl))
-    (λ members f. absurd (other_text {F = IsNamed (codes "headers_t")} {G = IsNamed (codes "meta_t")} (codes "headers_t") (codes "meta_t") (ahead c.later.result) refl (λ word h. h.1) (λ word h. h.1) (rw c.later.ensures (begins_second (ahead c.args.reader.now) f)) (c.if-is_at_name-3.ensures.0 refl)),
-    λ fields f. c.meta.ensures.only more fields rest f)
+    by_first (λ d. IsReading (more ≤ c.args.depth) seen_decl d rest (ahead c.meta.new.reader) c.meta.result) more decl First.by_struct m (at_reserved (ahead c.args.reader.now) (c.if-is_at_reserved-4.ensures.0 refl)) (
+      λ members f. absurd (other_text {F = IsNamed (codes "headers_t")} {G = IsNamed (codes "meta_t")} (codes "headers_t") (codes "meta_t") (ahead c.later.result) refl (λ word h. h.1) (λ word h. h.1) (rw c.later.ensures (begins_second (ahead c.args.reader.now) f)) (c.if-is_at_name-3.ensures.0 refl)),
+      λ fields f. c.meta.ensures.only more fields rest f,
+    )
 
 pub returns-then-is_at_reserved-4-clause-only : goal.returns-then-is_at_reserved-4-clause-only
 returns-then-is_at_reserved-4-clause-only c = λ more decl rest m.
-    by_first (λ d. IsReading (more ≤ c.args.depth) seen_decl d rest (ahead c.headers.new.reader) c.headers.result) more decl First.by_struct m (at_reserved (ahead c.args.reader.now) (c.if-is_at_reserved-4.ensures.0 refl))
-    (λ members f. c.headers.ensures.only more members rest f,
-    λ fields f. absurd (not_there c.if-is_at_name-3.ensures.1 (rw c.later.ensures (begins_second (ahead c.args.reader.now) f))))
+    by_first (λ d. IsReading (more ≤ c.args.depth) seen_decl d rest (ahead c.headers.new.reader) c.headers.result) more decl First.by_struct m (at_reserved (ahead c.args.reader.now) (c.if-is_at_reserved-4.ensures.0 refl)) (
+      λ members f. c.headers.ensures.only more members rest f,
+      λ fields f. absurd (not_there c.if-is_at_name-3.ensures.1 (rw c.later.ensures (begins_second (ahead c.args.reader.now) f))),
+    )
 
 pub returns-then-is_at_name-4-clause-only : goal.returns-then-is_at_name-4-clause-only
 returns-then-is_at_name-4-clause-only c = λ more decl rest m.
