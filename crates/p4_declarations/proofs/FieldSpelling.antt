@@ -4,7 +4,7 @@ use Rattle.elastic_ast.specs.declared.declarations.Field.{Field}
 use Rattle.spelling.specs.Words.{Word}
 use Rattle.spelling.specs.Grammar.{Grammar, ◌⨟◌, Begins, IsSign, Named, is_sign}
 use Rattle.spelling.specs.Reading.{MayTake}
-use Rattle.spelling.proofs.Only.{begins_first, not_sign, of_where, regroup, reserved_no_sign, split}
+use Rattle.spelling.proofs.Only.{begins_first, not_sign, of_where, reserved_no_sign, split}
 use Rattle.p4_expr.specs.GoesOn.{EndsIndex}
 use Rattle.p4_declarations.specs.Flat.{SpellsHeaderField, SpellsMetaField, SpellsMember}
 

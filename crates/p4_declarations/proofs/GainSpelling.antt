@@ -4,8 +4,6 @@ use Rattle.std.proofs.lemmas.Bool.{false≢true}
 use Rattle.elastic_ast.specs.declared.declarations.LinTerm.{LinTerm}
 use Rattle.elastic_ast.specs.declared.declarations.UtilTerm.{UtilTerm}
 use Rattle.elastic_ast.specs.declared.declarations.UtilTerm.TheVariants as util
-use Rattle.p4_lexer.specs.declared.token.Kind.{Kind}
-use Rattle.p4_lexer.specs.declared.token.Kind.TheVariants as kind
 use Rattle.spelling.specs.Words.{Word}
 use Rattle.spelling.specs.Grammar.{Grammar, ◌⨟◌, Each, Sign, Begins, IsReserved, IsSign, is_reserved}
 use Rattle.spelling.specs.Reading.{MayTake, Ends}

@@ -7,9 +7,9 @@ use Rattle.elastic_ast.specs.declared.declarations.Comp.{Comp}
 use Rattle.spelling.specs.Words.{Word}
 use Rattle.spelling.specs.Grammar.{Grammar, ◌⨟◌, Each, Begins, IsNamed, IsNum, IsSign, Sign, is_number}
 use Rattle.spelling.specs.Reading.{MayTake, Ends}
-use Rattle.spelling.proofs.Only.{begins, begins_both, begins_first, empty_same, ends_sign, fact_of, of_where, regroup, split, which}
+use Rattle.spelling.proofs.Only.{begins, begins_both, begins_first, empty_same, ends_sign, fact_of, of_where, regroup, which}
 use Rattle.p4_declarations.specs.GoesOn.{comparison_signs, product_signs, sum_signs}
-use Rattle.p4_declarations.specs.Sums.{SpellsComparison, SpellsFirstTerm, SpellsLaterTerm, SpellsProduct}
+use Rattle.p4_declarations.specs.Sums.{SpellsComparison, SpellsLaterTerm, SpellsProduct}
 use Rattle.p4_declarations.proofs.Signs.{sign_follows}
 
 name_no_number : (n : List ℕ) (ws : List Word) → Begins (IsNamed n) ws → Begins (λ word. IsTrue (is_number word.kind)) ws → ⊥

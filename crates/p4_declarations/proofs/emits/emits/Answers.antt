@@ -1,6 +1,5 @@
 use Rattle.std.proofs.Common.{sym, refl, subst, codes}
 use Rattle.spelling.specs.Grammar.{Begins, IsSign}
-use Rattle.spelling.specs.Reading.{ahead}
 use Rattle.spelling.proofs.Limits.{or_answers}
 use Rattle.spelling.proofs.Only.{after, not_there, wants}
 use Rattle.spelling.proofs.Taking.{may, each_more}

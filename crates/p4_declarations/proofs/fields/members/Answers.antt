@@ -1,6 +1,5 @@
 use Rattle.std.proofs.Common.{sym, refl, subst, codes}
 use Rattle.spelling.specs.Grammar.{Begins, IsSign}
-use Rattle.spelling.specs.Reading.{ahead}
 use Rattle.spelling.proofs.Only.{after, not_there, want_answers, wants}
 use Rattle.spelling.proofs.Taking.{may, each_more}
 use Rattle.spelling.proofs.Whole.{left_more, none_left, one_left}

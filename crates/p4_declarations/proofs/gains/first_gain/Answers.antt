@@ -1,5 +1,4 @@
 use Rattle.std.proofs.Common.{◌∙◌, ap, sym, refl, false}
-use Rattle.spelling.specs.Reading.{ahead}
 use Rattle.spelling.proofs.Limits.{want_or, or_answers}
 use Rattle.spelling.proofs.Only.{not_there}
 use Rattle.p4_declarations.proofs.GainSpelling.{of_first, of_steps, of_product}

@@ -1,5 +1,4 @@
 use Rattle.std.proofs.Common.{refl}
-use Rattle.spelling.specs.Reading.{ahead}
 use Rattle.spelling.proofs.Limits.{or_answers}
 use Rattle.spelling.proofs.Only.{after, not_there, wants}
 use Rattle.spelling.proofs.Taking.{may, first_one, later_more}

@@ -1,5 +1,4 @@
 use Rattle.std.proofs.Common.{◌∙◌, ap, sym, refl}
-use Rattle.spelling.specs.Reading.{ahead}
 use Rattle.spelling.proofs.Limits.{want_or, or_answers}
 use Rattle.spelling.proofs.Only.{after, not_there}
 use Rattle.spelling.proofs.Taking.{takes_both}
