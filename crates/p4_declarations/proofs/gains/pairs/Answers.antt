@@ -1,6 +1,6 @@
-use Rattle.std.proofs.Common.{ap, codes, refl, subst, ◌∙◌}
-use Rattle.spelling.specs.Grammar.{Begins, IsSign}
-use Rattle.spelling.specs.Reading.{ahead}
+use Rattle.std.proofs.Common.{[], ◌∷◌, ◌++◌, ap, codes, refl, subst, sym, ◌∙◌}
+use Rattle.spelling.specs.Grammar.{Begins, FirstThenEach, IsSign}
+use Rattle.spelling.specs.Reading.{Takes, ahead}
 use Rattle.spelling.proofs.Only.{after, after_one, begins, begins_first, not_there, regroup, want_answers, wants}
 use Rattle.spelling.proofs.Taking.{may, takes_both, first_one, later_more}
 use Rattle.spelling.proofs.Whole.{first_of, left_first, left_more, none_left, one_left}
@@ -10,13 +10,13 @@ use Rattle.p4_declarations.proofs.gains.pairs.Goals as goal
 
 pub pairs-init : goal.pairs-init
 pairs-init c =
-    rw (c.in_ok-keep.ensures.ok, c.new-pairs.ensures)
+    let one = c.in_ok-keep.ensures.ok ∙ ap (λ l. l ++ c.in_ok-first.first ∷ []) c.new-pairs.ensures in
     record {
-      taken = first_one SpellsStep LaterStep c.in_ok-first.first c.in_ok-first.ensures.taken;
+      taken = subst (λ l. Takes (FirstThenEach SpellsStep LaterStep l) (ahead c.args.reader.now) (ahead c.pair.new.reader)) (sym one) (first_one SpellsStep LaterStep c.in_ok-first.first c.in_ok-first.ensures.taken);
       only = λ all rest m ends.
           let n = first_of SpellsStep LaterStep all m in
           let r = after n.ahead (λ b f s. c.in_ok-first.ensures.only n.one b f) in
-          left_first n refl r.0 r.1;
+          left_first n one r.0 r.1;
     }
 
 pub returns-in_err-first-clause-only : goal.returns-in_err-first-clause-only
