@@ -5,8 +5,8 @@ use Rattle.spelling.specs.Words.{Word}
 use Rattle.spelling.specs.Grammar.{Grammar, ◌⨟◌, Sign, IsSign, Begins, Bracketed}
 use Rattle.spelling.specs.declared.error.SyntaxError.{SyntaxError}
 use Rattle.spelling.specs.declared.error.SyntaxError.TheVariants as error
-use Rattle.spelling.specs.Reading.{MayTake, MayNotOpen, IsWant, WantsOr, IsSameRefusal, IsAnswer, IsReading, IsReadWithin}
-use Rattle.spelling.proofs.Only.{begins_first, regroup, split}
+use Rattle.spelling.specs.Reading.{Takes, MayTake, MayNotOpen, IsWant, WantsOr, IsSameRefusal, IsAnswer, IsReading, IsReadWithin}
+use Rattle.spelling.proofs.Only.{after_one, begins_first, regroup, split}
 use Rattle.spelling.proofs.Taking.{may_both}
 
 -- want of memory alone
@@ -73,3 +73,9 @@ inside_then opening closing more depth inner Between e m =
     let i = inside opening closing more depth inner Between e s.first in
     let t = split (regroup (may_both i.parts s.second)) in
     record { within = i.within; fewer = i.fewer; parts = may_both t.first (regroup t.second) }
+
+-- what stands behind an opening bracket that is read
+pub past_opening : (opening closing : List ℕ) (more depth inner : ℕ) (Between : ℕ → Grammar) {a b d : List Word} → depth ≡ inner + 1 → Takes (Sign opening) a b → MayTake (Bracketed opening closing more Between) a d → Inside more depth inner (λ n. Between n ⨟ Sign closing) b d
+past_opening opening closing more depth inner Between e o m =
+    let i = inside opening closing more depth inner Between e m in
+    record { within = i.within; fewer = i.fewer; parts = after_one i.parts o }

@@ -1,7 +1,7 @@
 -- Words that are known one by one, taken from the front of what spells something.
-use Rattle.std.proofs.Common.{◌≡◌, ℕ, zero, suc, List, ◌∷◌, refl, sym, subst, add-one}
+use Rattle.std.proofs.Common.{◌≡◌, ℕ, zero, suc, List, [], ◌∷◌, drop, refl, sym, subst, add-one}
 use Rattle.spelling.specs.Words.{Word}
-use Rattle.spelling.specs.Grammar.{Grammar, Empty, Where, ◌⨟◌, One, Sign, Bracketed}
+use Rattle.spelling.specs.Grammar.{Grammar, Empty, Where, ◌⨟◌, One, Sign, Begins, Bracketed}
 use Rattle.spelling.specs.Reading.{MayTake}
 use Rattle.spelling.proofs.Only.{after_one, begins_first, empty_same, fact_of, of_where, split, within}
 use Rattle.spelling.proofs.Places.{takes_word}
@@ -30,3 +30,8 @@ pub record Opened (opening closing : List ℕ) (depth : ℕ) (Between : ℕ → 
 pub opened : (opening closing : List ℕ) (depth : ℕ) (Between : ℕ → Grammar) {Q : Grammar} {a c : List Word} → MayTake (Bracketed opening closing depth Between ⨟ Q) a c → Opened opening closing depth Between Q a c
 opened opening closing zero Between m = absurd (split m).first.spelled
 opened opening closing (suc depth) Between m = record { inner = depth; more = refl; ahead = within opening closing (suc depth) depth Between (sym (add-one depth)) m }
+
+-- the second word
+pub begins_second : {F G : Word → Type 0} {Q : Grammar} {c : List Word} (a : List Word) → MayTake (One F ⨟ One G ⨟ Q) a c → Begins G (drop 1 a)
+begins_second [] m = absurd (begins_first m)
+begins_second (word ∷ ws) m = begins_first (peel m)

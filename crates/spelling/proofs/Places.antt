@@ -57,6 +57,6 @@ touching_takes IsFirst IsSecond text tokens n h = rw (words_later text tokens n 
 pub words_within : (text : List ℕ) (tokens : List Token) (n most : ℕ) → length tokens ≤ most → words text (drop (min n most) tokens) ≡ words text (drop n tokens)
 words_within text tokens n most few =
     elim (cases_lt n most) [
-      inl h ↦ let e : min n most ≡ n = omega (arith, h) in ap (λ m. words text (drop m tokens)) e
-    | inr h ↦ let e : min n most ≡ most = omega (arith, h) in ap (λ m. words text (drop m tokens)) e ∙ none_ahead text tokens most few ∙ sym (none_ahead text tokens n (omega (arith, few, h)))
+      | inl h ↦ let e : min n most ≡ n = omega (arith, h) in ap (λ m. words text (drop m tokens)) e
+      | inr h ↦ let e : min n most ≡ most = omega (arith, h) in ap (λ m. words text (drop m tokens)) e ∙ none_ahead text tokens most few ∙ sym (none_ahead text tokens n (omega (arith, few, h)))
     ]

@@ -1,0 +1,30 @@
+use Rattle.spelling.proofs.Limits.{want_or, or_answers}
+use Rattle.spelling.proofs.Only.{after_one, named_same, wants_name, wants_one}
+use Rattle.spelling.proofs.Taking.{takes_both}
+use Rattle.p4_declarations.proofs.SameDecls.{same_header}
+use Rattle.p4_declarations.proofs.structs.header.Goals as goal
+
+pub returns-clause-taken : goal.returns-clause-taken
+returns-clause-taken c = takes_both c.in_ok-reserved.ensures.taken (takes_both c.in_ok-name.ensures.taken c.in_ok-fields.ensures.taken)
+
+pub returns-in_err-reserved-clause-only : goal.returns-in_err-reserved-clause-only
+returns-in_err-reserved-clause-only c = λ more name fields rest m.
+    or_answers _ _ _ _ _ _ c.from_residual.result c.from_residual.ensures.1 (want_or _ _ (wants_one _ _ m c.in_err-reserved.ensures.refused))
+
+pub returns-in_err-name-clause-only : goal.returns-in_err-name-clause-only
+returns-in_err-name-clause-only c = λ more name fields rest m.
+    let m1 = after_one m c.in_ok-reserved.ensures.taken in
+    or_answers _ _ _ _ _ _ c.from_residual-in_err-name.result c.from_residual-in_err-name.ensures.1 (want_or _ _ (wants_name _ _ m1 c.in_err-name.ensures.refused))
+
+pub returns-in_err-fields-clause-only : goal.returns-in_err-fields-clause-only
+returns-in_err-fields-clause-only c = λ more name fields rest m.
+    let m1 = after_one m c.in_ok-reserved.ensures.taken in
+    let m2 = after_one m1 c.in_ok-name.ensures.taken in
+    or_answers _ _ _ _ _ _ c.from_residual-in_err-fields.result c.from_residual-in_err-fields.ensures.1 (c.in_err-fields.ensures.only more fields rest m2)
+
+pub returns-clause-only : goal.returns-clause-only
+returns-clause-only c = λ more name fields rest m.
+    let m1 = after_one m c.in_ok-reserved.ensures.taken in
+    let m2 = after_one m1 c.in_ok-name.ensures.taken in
+    let m3 = c.in_ok-fields.ensures.only more fields rest m2 in
+    (same_header (named_same m1 c.in_ok-name.ensures.taken) m3.0, m3.1)
