@@ -1,1 +1,2 @@
+mod EntrySpelling
 mod SetSpelling
