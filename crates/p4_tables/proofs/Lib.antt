@@ -1,2 +1,3 @@
 mod EntrySpelling
+mod PropertySpelling
 mod SetSpelling
