@@ -1,7 +1,6 @@
 -- The first words of a property say of which kind it is.
 use Rattle.std.proofs.Common.{◌≡◌, ℕ, List, [], ◌∷◌, bytes_eq, codes, cond, drop, false, ◌⊎◌, inl, inr, refl, sym, ap, ◌∙◌, arith}
-use Rattle.elastic_ast.specs.Tree.{PlainEntry, PlainExpr}
-use Rattle.elastic_ast.specs.declared.declarations.Key.{Key}
+use Rattle.elastic_ast.specs.Tree.{PlainExpr}
 use Rattle.spelling.specs.Words.{Word}
 use Rattle.spelling.specs.Grammar.{Grammar, ◌⨟◌, Begins, IsNamed, IsReserved, One}
 use Rattle.spelling.specs.Reading.{MayTake}
@@ -69,20 +68,6 @@ none_begins (Property.Size bound) ws first key actions default size const = size
 none_begins (Property.Entries entries) ws first key actions default size const = const first.0 (inr first.1)
 
 -- a property of a kind
-pub of_keys : (P : Property → Type 0) (property : Property) → kind_of property ≡ 0 → ((keys : List Key) → P (Property.Keys keys)) → P property
-of_keys P (Property.Keys keys) e f = f keys
-of_keys P (Property.Actions names) e f = absurd (omega (arith, e))
-of_keys P (Property.Fallback action arguments) e f = absurd (omega (arith, e))
-of_keys P (Property.Size size) e f = absurd (omega (arith, e))
-of_keys P (Property.Entries entries) e f = absurd (omega (arith, e))
-
-pub of_actions : (P : Property → Type 0) (property : Property) → kind_of property ≡ 1 → ((names : List (List ℕ)) → P (Property.Actions names)) → P property
-of_actions P (Property.Keys keys) e f = absurd (omega (arith, e))
-of_actions P (Property.Actions names) e f = f names
-of_actions P (Property.Fallback action arguments) e f = absurd (omega (arith, e))
-of_actions P (Property.Size size) e f = absurd (omega (arith, e))
-of_actions P (Property.Entries entries) e f = absurd (omega (arith, e))
-
 pub of_fallback : (P : Property → Type 0) (property : Property) → kind_of property ≡ 2 → ((action : List ℕ) (arguments : List PlainExpr) → P (Property.Fallback action arguments)) → P property
 of_fallback P (Property.Keys keys) e f = absurd (omega (arith, e))
 of_fallback P (Property.Actions names) e f = absurd (omega (arith, e))
@@ -96,10 +81,3 @@ of_size P (Property.Actions names) e f = absurd (omega (arith, e))
 of_size P (Property.Fallback action arguments) e f = absurd (omega (arith, e))
 of_size P (Property.Size size) e f = f size
 of_size P (Property.Entries entries) e f = absurd (omega (arith, e))
-
-pub of_entries : (P : Property → Type 0) (property : Property) → kind_of property ≡ 4 → ((entries : List PlainEntry) → P (Property.Entries entries)) → P property
-of_entries P (Property.Keys keys) e f = absurd (omega (arith, e))
-of_entries P (Property.Actions names) e f = absurd (omega (arith, e))
-of_entries P (Property.Fallback action arguments) e f = absurd (omega (arith, e))
-of_entries P (Property.Size size) e f = absurd (omega (arith, e))
-of_entries P (Property.Entries entries) e f = f entries
