@@ -19,20 +19,6 @@ pub record Built (name : List ℕ) (parts left : List Part) (table : PlainTable)
   pub whole : parts ≡ left ++ done
   pub is : table ≡ table_with name (map seen_part done)
 
-pub built_none : (name : List ℕ) (parts : List Part) → Built name parts parts (table_with name [])
-built_none name parts = record { done = []; whole = sym (append-nil parts); is = refl }
-
-pub built_one : {name : List ℕ} {parts left rest : List Part} {before table : PlainTable} (part : Part) → Built name parts left before → left ≡ rest ++ part ∷ [] → table ≡ with_property (seen_part part) before → Built name parts rest table
-built_one {rest = rest} part b last is =
-    record {
-      done = part ∷ b.done;
-      whole = b.whole ∙ ap (λ left. left ++ b.done) last ∙ append_assoc rest (part ∷ []) b.done;
-      is = is ∙ ap (with_property (seen_part part)) b.is;
-    }
-
-pub built_all : {name : List ℕ} {parts left : List Part} {table : PlainTable} → Built name parts left table → left ≡ [] → table ≡ table_with name (map seen_part parts)
-built_all {name = name} b none = b.is ∙ ap (λ done. table_with name (map seen_part done)) (sym (b.whole ∙ ap (λ left. left ++ b.done) none))
-
 -- no two properties are of one kind
 abbrev pub Apart : List Property → Type 0
 Apart properties = AllPairs (λ one other. kind_of one ≢ kind_of other) properties
