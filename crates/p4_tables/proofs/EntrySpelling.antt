@@ -48,8 +48,8 @@ key_no_sign depth key sign m at = lval_no_sign depth key.field sign (split (spli
 pub entry_no_end : (depth : ℕ) (entry : PlainEntry) {Q : Grammar} {a c : List Word} → MayTake (SpellsEntry depth entry ⨟ Q) a c → Begins (IsSign (codes "}")) a → ⊥
 entry_no_end depth entry {a = a} m at =
     elim (which (split (split m).first).first) [
-      inl o ↦ set_no_sign (one_set_there entry.keys o).set (codes "}") (one_set_there entry.keys o).ahead at
-    | inr b ↦ (ends_sign (codes "(" ∷ []) (codes "}") a refl at).0 (begins_bracketed (codes "(") (codes ")") depth (SetList entry.keys) b)
+      | inl o ↦ set_no_sign (one_set_there entry.keys o).set (codes "}") (one_set_there entry.keys o).ahead at
+      | inr b ↦ (ends_sign (codes "(" ∷ []) (codes "}") a refl at).0 (begins_bracketed (codes "(") (codes ")") depth (SetList entry.keys) b)
     ]
 
 pub same_entry : (f g : PlainEntry) → f.keys ≡ g.keys → f.action ≡ g.action → f.args ≡ g.args → f ≡ g

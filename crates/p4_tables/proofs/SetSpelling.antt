@@ -1,5 +1,5 @@
 -- What the spelling of a value and of a set leaves no choice of.
-use Rattle.std.proofs.Common.{◌≡◌, ℕ, IsTrue, true, false, List, [], ◌∷◌, Option, Some, None, codes, refl, sym, ap, subst, ◌∙◌, inl, inr}
+use Rattle.std.proofs.Common.{◌≡◌, ℕ, IsTrue, List, [], ◌∷◌, Option, Some, None, codes, refl, sym, ap, subst, ◌∙◌, inl, inr}
 use Rattle.std.proofs.lemmas.Bool.{false≢true}
 use Rattle.p4_lexer.specs.declared.token.Kind.{Kind}
 use Rattle.p4_lexer.specs.declared.token.Kind.TheVariants as kind

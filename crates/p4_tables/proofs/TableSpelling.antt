@@ -1,5 +1,5 @@
 -- The properties of a table: how a table is made of them, and that none is of the kind of another.
-use Rattle.std.proofs.Common.{◌≡◌, ◌≢◌, ℕ, ◌+◌, ◌<◌, All, AllPairs, List, [], ◌∷◌, ◌++◌, codes, inl, inr, length, map, refl, sym, ap, subst, ◌∙◌, add-one, append_assoc, append-nil, arith, length-append}
+use Rattle.std.proofs.Common.{◌≡◌, ◌≢◌, ℕ, ◌+◌, ◌<◌, All, AllPairs, List, [], ◌∷◌, ◌++◌, codes, inl, inr, length, map, refl, sym, ap, subst, ◌∙◌, add-one, arith, length-append}
 use Rattle.std.proofs.Math.Seq.{get_or-append_seam}
 use Rattle.std.proofs.lemmas.List.{get_or_append_left}
 use Rattle.elastic_ast.specs.Tree.{PlainTable}
@@ -10,7 +10,7 @@ use Rattle.spelling.proofs.Only.{not_sign, reserved_no_sign, split}
 use Rattle.spelling.proofs.Taking.{takes_as}
 use Rattle.p4_tables.specs.declared.properties.Part.{Part}
 use Rattle.p4_tables.specs.Seen.{seen_part}
-use Rattle.p4_tables.specs.Tables.{Property, SpellsProperty, SpellsTable, kind_of, table_with, with_property}
+use Rattle.p4_tables.specs.Tables.{Property, SpellsProperty, SpellsTable, kind_of, table_with}
 use Rattle.p4_tables.proofs.PropertySpelling.{FirstWords, first_words}
 
 -- a table that has the properties behind those that are left

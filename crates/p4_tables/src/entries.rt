@@ -17,11 +17,7 @@ use spelling::{Reader, SyntaxError, keep};
 use std::alloc::Global;
 
 /// Reads keys up to the closing bracket. `depth` is how many brackets may be open from here on.
-pub fn keys(
-    alloc: Global,
-    reader: &mut Reader<'_>,
-    depth: u32,
-) -> Result<Items<Key>, SyntaxError>
+pub fn keys(alloc: Global, reader: &mut Reader<'_>, depth: u32) -> Result<Items<Key>, SyntaxError>
     ensures taken { IfOk result (λ keys. MayTake (Each (SpellsKey depth) keys) (ahead reader.old) (ahead reader.new)) }
     ensures only { (more : ℕ) (keys : List Key) (rest : List Word) → MayTake (Each (SpellsKey more) keys) (ahead reader.old) rest → Begins (IsSign (codes "}")) rest → IsReading (more ≤ depth) (λ read. read) keys rest (ahead reader.new) result }
 {

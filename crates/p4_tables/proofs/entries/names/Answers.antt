@@ -1,6 +1,6 @@
 use Rattle.std.proofs.Common.{codes, refl, subst, sym}
 use Rattle.spelling.specs.Grammar.{Begins, IsSign}
-use Rattle.spelling.proofs.Only.{after, after_one, named_same, not_there, regroup, want_answers, wants_name, wants_one}
+use Rattle.spelling.proofs.Only.{after_one, named_same, not_there, regroup, want_answers, wants_name, wants_one}
 use Rattle.spelling.proofs.Taking.{may, may_empty, each_more, takes_both}
 use Rattle.spelling.proofs.Whole.{left_all, left_more, none_left, one_left}
 use Rattle.p4_tables.proofs.EntrySpelling.{NameLine, name_no_sign}

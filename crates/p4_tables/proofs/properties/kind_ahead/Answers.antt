@@ -1,6 +1,5 @@
 use Rattle.std.proofs.Common.{codes, inl, inr, refl, subst, sym}
 use Rattle.spelling.specs.Grammar.{Begins, IsNamed}
-use Rattle.spelling.specs.Reading.{ahead}
 use Rattle.spelling.proofs.Only.{not_there}
 use Rattle.p4_tables.proofs.PropertySpelling.{const_kind, first_words, named_kind, none_begins}
 use Rattle.p4_tables.proofs.properties.kind_ahead.Goals as goal
@@ -32,7 +31,7 @@ returns-then-is_at_name-6 c = λ depth property rest m.
 pub returns : goal.returns
 returns c = λ depth property rest m.
     absurd (none_begins property _ (first_words depth property m) (not_there c.if-is_at_name.ensures.1) (not_there c.if-is_at_name-2.ensures.1) (not_there c.if-is_at_name-3.ensures.1) (not_there c.if-is_at_name-4.ensures.1)
-        (λ const at. elim at [
-            inl default ↦ not_there c.if-is_at_name-5.ensures.1 (subst (Begins (IsNamed (codes "default_action"))) (sym c.later-behind.ensures) default)
-          | inr entries ↦ not_there c.if-is_at_name-6.ensures.1 (subst (Begins (IsNamed (codes "entries"))) (sym c.later-behind.ensures) entries)
-          ]))
+    (λ const at. elim at [
+      | inl default ↦ not_there c.if-is_at_name-5.ensures.1 (subst (Begins (IsNamed (codes "default_action"))) (sym c.later-behind.ensures) default)
+      | inr entries ↦ not_there c.if-is_at_name-6.ensures.1 (subst (Begins (IsNamed (codes "entries"))) (sym c.later-behind.ensures) entries)
+    ]))

@@ -1,4 +1,4 @@
-use Rattle.std.proofs.Common.{◌≢◌, All, map, refl, subst, sym, ◌≤◌}
+use Rattle.std.proofs.Common.{◌≢◌, All, map, subst, sym}
 use Rattle.std.proofs.lemmas.Bool.{false≢true}
 use Rattle.spelling.proofs.Limits.{or_answers, want_or}
 use Rattle.p4_tables.specs.Seen.{seen_part}

@@ -7,8 +7,8 @@ use Rattle.spelling.proofs.Only.{after, not_there, wants}
 use Rattle.spelling.proofs.Taking.{may, each_more}
 use Rattle.spelling.proofs.Whole.{left_more, none_left, one_left}
 use Rattle.p4_tables.specs.Seen.{seen_part}
-use Rattle.p4_tables.specs.Tables.{Property, SpellsProperty, kind_of}
-use Rattle.p4_tables.proofs.TableSpelling.{Apart, apart_before, property_no_end}
+use Rattle.p4_tables.specs.Tables.{SpellsProperty, kind_of}
+use Rattle.p4_tables.proofs.TableSpelling.{apart_before, property_no_end}
 use Rattle.p4_tables.proofs.reading.properties.Goals as goal
 
 pub parts-preserved : goal.parts-preserved

@@ -1,5 +1,4 @@
 use Rattle.std.proofs.Common.{[], ◌∷◌, sym, ap, ◌∙◌}
-use Rattle.elastic_ast.specs.Seen.{seen_keyset}
 use Rattle.spelling.proofs.Only.{want_answers}
 use Rattle.p4_tables.proofs.SetSpelling.{one_set_there}
 use Rattle.p4_tables.proofs.sets.one_set.Goals as goal

@@ -1,8 +1,8 @@
-use Rattle.std.proofs.Common.{None, Some, refl, sym, ap, subst, ◌∙◌}
+use Rattle.std.proofs.Common.{refl, sym, ap, ◌∙◌}
 use Rattle.elastic_ast.specs.Seen.{seen_expr}
 use Rattle.elastic_ast.specs.Tree.{PlainKeyset}
-use Rattle.spelling.specs.Reading.{ahead, MayTake}
-use Rattle.spelling.proofs.Only.{after, after_one, alone, begins, not_there, same_end, want_answers, wants, wants_one}
+use Rattle.spelling.specs.Reading.{ahead}
+use Rattle.spelling.proofs.Only.{after, after_one, begins, not_there, same_end, want_answers, wants}
 use Rattle.spelling.proofs.Taking.{may, takes_both}
 use Rattle.p4_tables.proofs.SetSpelling.{any_there, mask_missing, mask_there, masked, value_there}
 use Rattle.p4_tables.proofs.sets.set.Goals as goal

@@ -1,4 +1,4 @@
-use Rattle.std.proofs.Common.{refl, sym, ap, subst, ◌∙◌}
+use Rattle.std.proofs.Common.{refl, sym, ap, ◌∙◌}
 use Rattle.elastic_ast.specs.SeenLaws.{seen_expr-named, seen_expr-num}
 use Rattle.elastic_ast.specs.Tree.{PlainExpr}
 use Rattle.spelling.proofs.Only.{alone, named_same, not_there, same_end, want_answers, wants_name}

@@ -1,4 +1,4 @@
-use Rattle.std.proofs.Common.{[], ◌∷◌, ap, codes, map, refl, subst, ◌∙◌}
+use Rattle.std.proofs.Common.{[], ◌∷◌, ap, codes, refl, subst, ◌∙◌}
 use Rattle.std.proofs.lemmas.List.{map-append}
 use Rattle.elastic_ast.specs.Seen.{seen_expr, seen_exprs}
 use Rattle.spelling.specs.Grammar.{Begins, IsSign}
