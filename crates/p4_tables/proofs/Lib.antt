@@ -1,0 +1,4 @@
+mod EntrySpelling
+mod PropertySpelling
+mod SetSpelling
+mod TableSpelling

@@ -1,2 +1,12 @@
 //! The tables of a program: which words spell one, and how these are read.
 #![tactic(auto)]
+
+mod entries;
+mod properties;
+mod reading;
+mod sets;
+#[cfg(test)]
+mod tests;
+
+pub use reading::table;
+pub use sets::set;

@@ -1,0 +1,66 @@
+-- What the spelling of a key and of an entry leaves no choice of.
+use Rattle.std.proofs.Common.{◌≡◌, ℕ, Bool, true, false, List, [], ◌∷◌, codes, refl, ap, ◌∙◌, inl, inr}
+use Rattle.elastic_ast.specs.Tree.{PlainEntry, PlainExpr, PlainKeyset}
+use Rattle.elastic_ast.specs.declared.declarations.Key.{Key}
+use Rattle.elastic_ast.specs.declared.statements.Lval.{Lval}
+use Rattle.elastic_ast.specs.declared.statements.Lval.TheVariants as lval
+use Rattle.spelling.specs.Words.{Word}
+use Rattle.spelling.specs.Grammar.{Grammar, ◌⨟◌, Begins, IsNamed, IsSign, Named, Sign, is_sign}
+use Rattle.spelling.specs.Reading.{MayTake}
+use Rattle.spelling.proofs.Only.{begins, begins_bracketed, begins_first, ends_sign, not_sign, other_text, split, which}
+use Rattle.p4_expr.specs.GoesOn.{EndsIndex}
+use Rattle.p4_expr.specs.Parts.{SpellsLval}
+use Rattle.p4_tables.specs.Tables.{SpellsEntry, SpellsKey, SpellsMatch}
+use Rattle.p4_tables.proofs.SetSpelling.{SetList, one_set_there, set_no_sign}
+
+-- how a key matches
+pub match_true : (ternary : Bool) {a c : List Word} → MayTake (SpellsMatch ternary) a c → Begins (IsNamed (codes "ternary")) a → (true ≡ ternary) × MayTake (Named (codes "ternary")) a c
+match_true true m at = (refl, m)
+match_true false {a = a} m at = absurd (other_text (codes "exact") (codes "ternary") a refl (λ word h. h.1) (λ word h. h.1) (begins m) at)
+
+pub match_false : (ternary : Bool) {a c : List Word} → MayTake (SpellsMatch ternary) a c → (Begins (IsNamed (codes "ternary")) a → ⊥) → (false ≡ ternary) × MayTake (Named (codes "exact")) a c
+match_false true m none = absurd (none (begins m))
+match_false false m none = (refl, m)
+
+-- a place ends where a colon follows
+pub colon_ends : {Q : Grammar} {a c : List Word} → MayTake (Sign (codes ":") ⨟ Q) a c → EndsIndex a
+colon_ends {a = a} m = λ at. absurd ((ends_sign (codes "[" ∷ []) (codes ":") a refl (begins_first m)).0 at)
+
+pub same_key : (f g : Key) → f.field ≡ g.field → f.ternary ≡ g.ternary → f ≡ g
+same_key f g field ternary =
+    let made : Lval → Bool → Key = λ l t. record { field = l; ternary = t } in
+    let same : made f.field f.ternary ≡ made g.field g.ternary = ap (λ l. made l f.ternary) field ∙ ap (λ t. made g.field t) ternary in
+    same
+
+named_no_sign : (name : List ℕ) {Q : Grammar} {a c : List Word} (sign : List ℕ) → MayTake (Named name ⨟ Q) a c → Begins (IsSign sign) a → ⊥
+named_no_sign name {a = a} sign m at = not_sign sign a (λ word h. ap is_sign h.0) (begins_first m) at
+
+-- a key's first word is no sign
+lval_no_sign : (depth : ℕ) (place : Lval) {a c : List Word} (sign : List ℕ) → MayTake (SpellsLval depth place) a c → Begins (IsSign sign) a → ⊥
+lval_no_sign depth (lval.Header header field) sign m at = named_no_sign (codes "hdr") sign (split m).first at
+lval_no_sign depth (lval.Meta name index) sign m at = named_no_sign (codes "meta") sign m at
+lval_no_sign depth (lval.Std name) sign m at = named_no_sign (codes "std") sign m at
+
+pub key_no_sign : (depth : ℕ) (key : Key) {Q : Grammar} {a c : List Word} (sign : List ℕ) → MayTake (SpellsKey depth key ⨟ Q) a c → Begins (IsSign sign) a → ⊥
+key_no_sign depth key sign m at = lval_no_sign depth key.field sign (split (split m).first).first at
+
+-- an entry begins with no closing bracket
+pub entry_no_end : (depth : ℕ) (entry : PlainEntry) {Q : Grammar} {a c : List Word} → MayTake (SpellsEntry depth entry ⨟ Q) a c → Begins (IsSign (codes "}")) a → ⊥
+entry_no_end depth entry {a = a} m at =
+    elim (which (split (split m).first).first) [
+      | inl o ↦ set_no_sign (one_set_there entry.keys o).set (codes "}") (one_set_there entry.keys o).ahead at
+      | inr b ↦ (ends_sign (codes "(" ∷ []) (codes "}") a refl at).0 (begins_bracketed (codes "(") (codes ")") depth (SetList entry.keys) b)
+    ]
+
+pub same_entry : (f g : PlainEntry) → f.keys ≡ g.keys → f.action ≡ g.action → f.args ≡ g.args → f ≡ g
+same_entry f g keys action args =
+    let made : List PlainKeyset → List ℕ → List PlainExpr → PlainEntry = λ k n e. record { keys = k; action = n; args = e } in
+    let same : made f.keys f.action f.args ≡ made g.keys g.action g.args = ap (λ k. made k f.action f.args) keys ∙ ap (λ n. made g.keys n f.args) action ∙ ap (λ e. made g.keys g.action e) args in
+    same
+
+-- a name of the list of actions
+abbrev pub NameLine : List ℕ → Grammar
+NameLine name = Named name ⨟ Sign (codes ";")
+
+pub name_no_sign : (name : List ℕ) {Q : Grammar} {a c : List Word} (sign : List ℕ) → MayTake (NameLine name ⨟ Q) a c → Begins (IsSign sign) a → ⊥
+name_no_sign name sign m at = named_no_sign name sign (split m).first at

@@ -1,0 +1,190 @@
+-- What the spelling of a value and of a set leaves no choice of.
+use Rattle.std.proofs.Common.{◌≡◌, ℕ, IsTrue, List, [], ◌∷◌, Option, Some, None, codes, refl, sym, ap, subst, ◌∙◌, inl, inr}
+use Rattle.std.proofs.lemmas.Bool.{false≢true}
+use Rattle.p4_lexer.specs.declared.token.Kind.{Kind}
+use Rattle.p4_lexer.specs.declared.token.Kind.TheVariants as kind
+use Rattle.elastic_ast.specs.Tree.{PlainExpr, PlainKeyset}
+use Rattle.spelling.specs.Words.{Word}
+use Rattle.spelling.specs.Grammar.{Grammar, Empty, ◌⨟◌, Begins, Bracketed, Commas, Each, IsReserved, IsSign, Named, Reserved, Separated, Sign, is_number, is_reserved, is_sign}
+use Rattle.spelling.specs.Reading.{Ends, MayTake}
+use Rattle.spelling.proofs.Only.{alone, begins, begins_both, begins_bracketed, begins_first, empty_same, ends_sign, not_sign, of_where, regroup, reserved_no_sign, split, which}
+use Rattle.p4_expr.specs.Parts.{IsNumber, SpellsNumber}
+use Rattle.p4_tables.specs.GoesOn.{set_list_signs, set_signs}
+use Rattle.p4_tables.specs.Tables.{SpellsOneSet, SpellsSet, SpellsSets, SpellsValue}
+
+-- a value that is a name, and one that is a number
+pub record NamedValue (value : PlainExpr) (a c : List Word) : Type 0 where
+  pub name : List ℕ
+  pub is : value ≡ PlainExpr.Named name
+  pub ahead : MayTake (Named name) a c
+
+pub record NumberValue (value : PlainExpr) (a c : List Word) : Type 0 where
+  pub width : Option ℕ
+  pub number : ℕ
+  pub is : value ≡ PlainExpr.Num width number
+  pub ahead : MayTake (SpellsNumber width number) a c
+
+number_there : (width : Option ℕ) (number : ℕ) (ws : List Word) → Begins (IsNumber width number) ws → Begins (λ word. IsTrue (is_number word.kind)) ws
+number_there width number [] b = b
+number_there width number (word ∷ ws) b = ap is_number b
+
+begins_number : (width : Option ℕ) (number : ℕ) {a c : List Word} → MayTake (SpellsNumber width number) a c → Begins (λ word. IsTrue (is_number word.kind)) a
+begins_number width number {a = a} m = number_there width number a (begins (of_where m))
+
+pub named_value : (value : PlainExpr) {a c : List Word} → MayTake (SpellsValue value) a c → (Begins (λ word. IsTrue (is_number word.kind)) a → ⊥) → NamedValue value a c
+named_value (PlainExpr.Num width number) m none = absurd (none (begins_number width number m))
+named_value (PlainExpr.Named name) m none = record { name = name; is = refl; ahead = m }
+named_value (PlainExpr.Truth truth) m none = absurd m.spelled
+named_value (PlainExpr.At lval) m none = absurd m.spelled
+named_value (PlainExpr.IsValid header) m none = absurd m.spelled
+named_value (PlainExpr.Unary op of) m none = absurd m.spelled
+named_value (PlainExpr.Binary op left right) m none = absurd m.spelled
+named_value (PlainExpr.Cast width of) m none = absurd m.spelled
+named_value (PlainExpr.Slice of high low) m none = absurd m.spelled
+named_value (PlainExpr.Hash number of modulus) m none = absurd m.spelled
+
+name_no_number : (n : List ℕ) {a c : List Word} → MayTake (Named n) a c → Begins (λ word. IsTrue (is_number word.kind)) a → ⊥
+name_no_number n {a = a} m at =
+    let b = begins_both a (begins m) at in
+    false≢true (sym (ap is_number b.1.0) ∙ b.2)
+
+pub number_value : (value : PlainExpr) {a c : List Word} → MayTake (SpellsValue value) a c → Begins (λ word. IsTrue (is_number word.kind)) a → NumberValue value a c
+number_value (PlainExpr.Num width number) m at = record { width = width; number = number; is = refl; ahead = m }
+number_value (PlainExpr.Named name) m at = absurd (name_no_number name m at)
+number_value (PlainExpr.Truth truth) m at = absurd m.spelled
+number_value (PlainExpr.At lval) m at = absurd m.spelled
+number_value (PlainExpr.IsValid header) m at = absurd m.spelled
+number_value (PlainExpr.Unary op of) m at = absurd m.spelled
+number_value (PlainExpr.Binary op left right) m at = absurd m.spelled
+number_value (PlainExpr.Cast width of) m at = absurd m.spelled
+number_value (PlainExpr.Slice of high low) m at = absurd m.spelled
+number_value (PlainExpr.Hash number of modulus) m at = absurd m.spelled
+
+-- no value begins with a reserved word
+reserved_no_number : (text : List ℕ) (k : Kind) → IsTrue (is_reserved k) → IsTrue (is_number k) → ⊥
+reserved_no_number text (kind.Reserved code) h g = false≢true g
+reserved_no_number text (kind.Sign code) h g = false≢true h
+reserved_no_number text kind.Name h g = false≢true h
+reserved_no_number text (kind.Number width value) h g = false≢true h
+reserved_no_number text (kind.Include file) h g = false≢true h
+
+value_no_reserved : (value : PlainExpr) {a c : List Word} (text : List ℕ) → MayTake (SpellsValue value) a c → Begins (IsReserved text) a → ⊥
+value_no_reserved (PlainExpr.Num width number) {a = a} text m at = let b = begins_both a (begins_number width number m) at in reserved_no_number text b.0.kind b.2.0 b.1
+value_no_reserved (PlainExpr.Named name) {a = a} text m at = let b = begins_both a (begins m) at in false≢true (sym (ap is_reserved b.1.0) ∙ b.2.0)
+value_no_reserved (PlainExpr.Truth truth) text m at = absurd m.spelled
+value_no_reserved (PlainExpr.At lval) text m at = absurd m.spelled
+value_no_reserved (PlainExpr.IsValid header) text m at = absurd m.spelled
+value_no_reserved (PlainExpr.Unary op of) text m at = absurd m.spelled
+value_no_reserved (PlainExpr.Binary op left right) text m at = absurd m.spelled
+value_no_reserved (PlainExpr.Cast width of) text m at = absurd m.spelled
+value_no_reserved (PlainExpr.Slice of high low) text m at = absurd m.spelled
+value_no_reserved (PlainExpr.Hash number of modulus) text m at = absurd m.spelled
+
+-- a set is `_`, where that stands there
+pub any_there : (set : PlainKeyset) {a c : List Word} → MayTake (SpellsSet set) a c → Begins (IsReserved (codes "_")) a → (PlainKeyset.Any ≡ set) × MayTake (Reserved (codes "_")) a c
+any_there (PlainKeyset.One value) m at = absurd (value_no_reserved value (codes "_") m at)
+any_there (PlainKeyset.Masked value mask) m at = absurd (value_no_reserved value (codes "_") (split m).first at)
+any_there PlainKeyset.Any m at = (refl, m)
+
+-- else it is a value, perhaps with a mask
+abbrev pub SpellsMask : Option PlainExpr → Grammar
+SpellsMask None = Empty
+SpellsMask (Some mask) = Sign (codes "&&&") ⨟ SpellsValue mask
+
+abbrev pub masked : PlainExpr → Option PlainExpr → PlainKeyset
+masked value None = PlainKeyset.One value
+masked value (Some mask) = PlainKeyset.Masked value mask
+
+pub record ValueThere (set : PlainKeyset) (a c : List Word) : Type 0 where
+  pub value : PlainExpr
+  pub mask : Option PlainExpr
+  pub is : set ≡ masked value mask
+  pub ahead : MayTake (SpellsValue value ⨟ SpellsMask mask) a c
+
+pub value_there : (set : PlainKeyset) {a c : List Word} → MayTake (SpellsSet set) a c → (Begins (IsReserved (codes "_")) a → ⊥) → ValueThere set a c
+value_there (PlainKeyset.One value) m none = record { value = value; mask = None; is = refl; ahead = alone m }
+value_there (PlainKeyset.Masked value mask) m none = record { value = value; mask = Some mask; is = refl; ahead = m }
+value_there PlainKeyset.Any m none = absurd (none (begins m))
+
+-- the mask is there where its sign is
+pub mask_missing : (mask : Option PlainExpr) {a c : List Word} → MayTake (SpellsMask mask) a c → (Begins (IsSign (codes "&&&")) a → ⊥) → (None ≡ mask) × (a ≡ c)
+mask_missing None m none = (refl, empty_same m)
+mask_missing (Some mask) m none = absurd (none (begins_first m))
+
+pub record MaskThere (mask : Option PlainExpr) (a c : List Word) : Type 0 where
+  pub of : PlainExpr
+  pub is : mask ≡ Some of
+  pub ahead : MayTake (Sign (codes "&&&") ⨟ SpellsValue of) a c
+
+pub mask_there : (mask : Option PlainExpr) {a c : List Word} → MayTake (SpellsMask mask) a c → Ends set_signs c → Begins (IsSign (codes "&&&")) a → MaskThere mask a c
+mask_there None m ends at = absurd (ends.0 (subst (Begins (IsSign (codes "&&&"))) (empty_same m) at))
+mask_there (Some mask) m ends at = record { of = mask; is = refl; ahead = m }
+
+-- a set after the first of a list
+abbrev pub LaterSet : PlainKeyset → Grammar
+LaterSet set = Sign (codes ",") ⨟ SpellsSet set
+
+pub sets_follow : (later : List PlainKeyset) {a c : List Word} → MayTake (Each LaterSet later) a c → Ends set_list_signs c → Ends set_signs a
+sets_follow [] {a = a} {c = c} m ends =
+    let set_ends : Ends set_signs c = (ends.0, tt) in
+    subst (Ends set_signs) (sym (empty_same m)) set_ends
+sets_follow (set ∷ later) {a = a} m ends = ends_sign set_signs (codes ",") a refl (begins_first (regroup m))
+
+-- a list of one set
+pub record OneSet (sets : List PlainKeyset) (a c : List Word) : Type 0 where
+  pub set : PlainKeyset
+  pub is : sets ≡ set ∷ []
+  pub ahead : MayTake (SpellsSet set) a c
+
+pub one_set_there : (sets : List PlainKeyset) {a c : List Word} → MayTake (SpellsOneSet sets) a c → OneSet sets a c
+one_set_there [] m = absurd m.spelled
+one_set_there (set ∷ []) m = record { set = set; is = refl; ahead = m }
+one_set_there (set ∷ other ∷ sets) m = absurd m.spelled
+
+-- no set begins with an opening bracket
+value_no_sign : (value : PlainExpr) {a c : List Word} (sign : List ℕ) → MayTake (SpellsValue value) a c → Begins (IsSign sign) a → ⊥
+value_no_sign (PlainExpr.Num width number) {a = a} sign m at = not_sign sign a (λ word h. ap is_sign h) (begins (of_where m)) at
+value_no_sign (PlainExpr.Named name) {a = a} sign m at = not_sign sign a (λ word h. ap is_sign h.0) (begins m) at
+value_no_sign (PlainExpr.Truth truth) sign m at = absurd m.spelled
+value_no_sign (PlainExpr.At lval) sign m at = absurd m.spelled
+value_no_sign (PlainExpr.IsValid header) sign m at = absurd m.spelled
+value_no_sign (PlainExpr.Unary op of) sign m at = absurd m.spelled
+value_no_sign (PlainExpr.Binary op left right) sign m at = absurd m.spelled
+value_no_sign (PlainExpr.Cast width of) sign m at = absurd m.spelled
+value_no_sign (PlainExpr.Slice of high low) sign m at = absurd m.spelled
+value_no_sign (PlainExpr.Hash number of modulus) sign m at = absurd m.spelled
+
+pub set_no_sign : (set : PlainKeyset) {a c : List Word} (sign : List ℕ) → MayTake (SpellsSet set) a c → Begins (IsSign sign) a → ⊥
+set_no_sign (PlainKeyset.One value) sign m at = value_no_sign value sign m at
+set_no_sign (PlainKeyset.Masked value mask) sign m at = value_no_sign value sign (split m).first at
+set_no_sign PlainKeyset.Any {a = a} sign m at = not_sign sign a (λ word h. reserved_no_sign word.kind h.0) (begins m) at
+
+-- a value after the first of a list
+abbrev pub LaterValue : PlainExpr → Grammar
+LaterValue value = Sign (codes ",") ⨟ SpellsValue value
+
+-- values with commas between them, where one is there
+pub commas_of : (values : List PlainExpr) {a c : List Word} → MayTake (Separated (Sign (codes ",")) SpellsValue values) a c → MayTake (Commas SpellsValue values) a c
+commas_of [] m = absurd m.spelled
+commas_of (value ∷ values) m = m
+
+pub of_commas : (values : List PlainExpr) {a c : List Word} → MayTake (Commas SpellsValue values) a c → Begins (IsSign (codes ")")) c → (Begins (IsSign (codes ")")) a → ⊥) → MayTake (Separated (Sign (codes ",")) SpellsValue values) a c
+of_commas [] m at none = absurd (none (subst (Begins (IsSign (codes ")"))) (sym (empty_same m)) at))
+of_commas (value ∷ values) m at none = m
+
+pub no_values : (values : List PlainExpr) {a c : List Word} → MayTake (Commas SpellsValue values) a c → Begins (IsSign (codes ")")) a → ([] ≡ values) × (a ≡ c)
+no_values [] m at = (refl, empty_same m)
+no_values (value ∷ values) m at = absurd (value_no_sign value (codes ")") (split m).first at)
+
+-- sets in brackets, where a bracket stands there; else one set
+abbrev pub SetList : List PlainKeyset → ℕ → Grammar
+SetList sets _ = Separated (Sign (codes ",")) SpellsSet sets
+
+one_no_sign : (sets : List PlainKeyset) {a c : List Word} (sign : List ℕ) → MayTake (SpellsOneSet sets) a c → Begins (IsSign sign) a → ⊥
+one_no_sign sets {a = a} sign m at = set_no_sign (one_set_there sets m).set sign (one_set_there sets m).ahead at
+
+pub brackets_there : (depth : ℕ) (sets : List PlainKeyset) {a c : List Word} → MayTake (SpellsSets depth sets) a c → Begins (IsSign (codes "(")) a → MayTake (Bracketed (codes "(") (codes ")") depth (SetList sets)) a c
+brackets_there depth sets m at = elim (which m) [ inl o ↦ absurd (one_no_sign sets (codes "(") o at) | inr b ↦ b ]
+
+pub one_there : (depth : ℕ) (sets : List PlainKeyset) {a c : List Word} → MayTake (SpellsSets depth sets) a c → (Begins (IsSign (codes "(")) a → ⊥) → MayTake (SpellsOneSet sets) a c
+one_there depth sets m none = elim (which m) [ inl o ↦ o | inr b ↦ absurd (none (begins_bracketed (codes "(") (codes ")") depth (SetList sets) b)) ]

@@ -1,0 +1,70 @@
+-- The properties of a table: how a table is made of them, and that none is of the kind of another.
+use Rattle.std.proofs.Common.{◌≡◌, ◌≢◌, ℕ, ◌+◌, ◌<◌, All, AllPairs, List, [], ◌∷◌, ◌++◌, codes, inl, inr, length, map, refl, sym, ap, subst, ◌∙◌, add-one, arith, length-append}
+use Rattle.std.proofs.Math.Seq.{get_or-append_seam}
+use Rattle.std.proofs.lemmas.List.{get_or_append_left}
+use Rattle.elastic_ast.specs.Tree.{PlainTable}
+use Rattle.spelling.specs.Words.{Word}
+use Rattle.spelling.specs.Grammar.{Grammar, ◌⨟◌, Begins, Bracketed, Each, IsNamed, IsReserved, IsSign, Named, Reserved, is_sign}
+use Rattle.spelling.specs.Reading.{MayTake, Takes}
+use Rattle.spelling.proofs.Only.{not_sign, reserved_no_sign, split}
+use Rattle.spelling.proofs.Taking.{takes_as}
+use Rattle.p4_tables.specs.declared.properties.Part.{Part}
+use Rattle.p4_tables.specs.Seen.{seen_part}
+use Rattle.p4_tables.specs.Tables.{Property, SpellsProperty, SpellsTable, kind_of, table_with}
+use Rattle.p4_tables.proofs.PropertySpelling.{FirstWords, first_words}
+
+-- a table that has the properties behind those that are left
+pub record Built (name : List ℕ) (parts left : List Part) (table : PlainTable) : Type 0 where
+  pub done : List Part
+  pub whole : parts ≡ left ++ done
+  pub is : table ≡ table_with name (map seen_part done)
+
+-- no two properties are of one kind
+abbrev pub Apart : List Property → Type 0
+Apart properties = AllPairs (λ one other. kind_of one ≢ kind_of other) properties
+
+pub apart_before : (read : List Property) (one : Property) (later all : List Property) → all ≡ read ++ one ∷ later → Apart all → All (λ other. kind_of other ≢ kind_of one) read
+apart_before read one later all whole apart = λ k d within.
+    let Both : List Property → Type 0 = Apart in
+    let h : Apart (read ++ one ∷ later) = subst Both whole apart in
+    let long : length (read ++ one ∷ later) ≡ length read + length (one ∷ later) = length-append read (one ∷ later) in
+    let here : length read < length (read ++ one ∷ later) = omega (arith, long, add-one (length later)) in
+    λ same. h k (length read) d within here (ap kind_of (get_or_append_left read (one ∷ later) d k within) ∙ same ∙ ap kind_of (sym (get_or-append_seam read one later d)))
+
+-- the words of a table
+abbrev pub TableWords : List ℕ → List Property → ℕ → Grammar
+TableWords name properties depth = Reserved (codes "table") ⨟ Named name ⨟ Bracketed (codes "{") (codes "}") depth (λ inner. Each (SpellsProperty inner) properties)
+
+pub with_name : (name : List ℕ) (properties : List Property) → (table_with name properties).name ≡ name
+with_name name [] = refl
+with_name name (Property.Keys keys ∷ properties) = with_name name properties
+with_name name (Property.Actions names ∷ properties) = with_name name properties
+with_name name (Property.Fallback action arguments ∷ properties) = with_name name properties
+with_name name (Property.Size size ∷ properties) = with_name name properties
+with_name name (Property.Entries entries ∷ properties) = with_name name properties
+
+pub takes_table : (depth : ℕ) (name : List ℕ) (properties : List Property) (table : PlainTable) {a c : List Word} → table ≡ table_with name properties → Apart properties → Takes (TableWords name properties depth) a c → Takes (SpellsTable depth table) a c
+takes_table depth name properties table is apart t =
+    let named : name ≡ table.name = sym (ap (λ table. table.name) is ∙ with_name name properties) in
+    takes_as (λ ws s. record { properties = properties; spelled = subst (λ name. TableWords name properties depth ws) named s; no_two = apart; has_them = is ∙ ap (λ name. table_with name properties) named }) t
+
+pub table_words : (depth : ℕ) (table : PlainTable) {a c : List Word} (m : MayTake (SpellsTable depth table) a c) → MayTake (TableWords table.name m.spelled.properties depth) a c
+table_words depth table m = record { front = m.front; joined = m.joined; spelled = m.spelled.spelled }
+
+-- a property does not begin with a closing bracket
+named_no_end : (name : List ℕ) (ws : List Word) → Begins (IsNamed name) ws → Begins (IsSign (codes "}")) ws → ⊥
+named_no_end name ws first at = not_sign (codes "}") ws (λ word h. ap is_sign h.0) first at
+
+const_no_end : (ws : List Word) → Begins (IsReserved (codes "const")) ws → Begins (IsSign (codes "}")) ws → ⊥
+const_no_end ws first at = not_sign (codes "}") ws (λ word h. reserved_no_sign word.kind h.0) first at
+
+words_no_end : (property : Property) (ws : List Word) → FirstWords property ws → Begins (IsSign (codes "}")) ws → ⊥
+words_no_end (Property.Keys keys) ws first at = named_no_end (codes "key") ws first at
+words_no_end (Property.Actions names) ws first at = named_no_end (codes "actions") ws first at
+words_no_end (Property.Fallback action arguments) ws (inl first) at = named_no_end (codes "default_action") ws first at
+words_no_end (Property.Fallback action arguments) ws (inr first) at = const_no_end ws first.0 at
+words_no_end (Property.Size size) ws first at = named_no_end (codes "size") ws first at
+words_no_end (Property.Entries entries) ws first at = const_no_end ws first.0 at
+
+pub property_no_end : (depth : ℕ) (property : Property) {Q : Grammar} {a c : List Word} → MayTake (SpellsProperty depth property ⨟ Q) a c → Begins (IsSign (codes "}")) a → ⊥
+property_no_end depth property {a = a} m at = words_no_end property a (first_words depth property (split m).first) at

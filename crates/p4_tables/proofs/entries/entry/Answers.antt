@@ -1,0 +1,47 @@
+use Rattle.std.proofs.Common.{codes, refl}
+use Rattle.spelling.proofs.Limits.{or_answers, want_or}
+use Rattle.spelling.proofs.Only.{after, after_one, alone, begins_first, ends_sign, named_same, same_end, wants, wants_name, wants_one}
+use Rattle.spelling.proofs.Taking.{takes_both}
+use Rattle.p4_tables.specs.GoesOn.{set_signs}
+use Rattle.p4_tables.proofs.EntrySpelling.{same_entry}
+use Rattle.p4_tables.proofs.entries.entry.Goals as goal
+
+pub returns-in_err-keys-clause-only : goal.returns-in_err-keys-clause-only
+returns-in_err-keys-clause-only c = λ more entry rest m.
+    or_answers _ _ _ _ _ _ c.from_residual.result c.from_residual.ensures.1 (wants m (λ b f s. c.in_err-keys.ensures.only more entry.keys b f (ends_sign set_signs (codes ":") b refl (begins_first s))))
+
+pub returns-in_err-sign-clause-only : goal.returns-in_err-sign-clause-only
+returns-in_err-sign-clause-only c = λ more entry rest m.
+    let r1 = after m (λ b f s. c.in_ok-keys.ensures.only more entry.keys b f (ends_sign set_signs (codes ":") b refl (begins_first s))) in
+    or_answers _ _ _ _ _ _ c.from_residual-in_err-sign.result c.from_residual-in_err-sign.ensures.1 (want_or _ _ (wants_one _ _ r1.1 c.in_err-sign.ensures.refused))
+
+pub returns-in_err-action-clause-only : goal.returns-in_err-action-clause-only
+returns-in_err-action-clause-only c = λ more entry rest m.
+    let r1 = after m (λ b f s. c.in_ok-keys.ensures.only more entry.keys b f (ends_sign set_signs (codes ":") b refl (begins_first s))) in
+    let m2 = after_one r1.1 c.in_ok-sign.ensures.taken in
+    or_answers _ _ _ _ _ _ c.from_residual-in_err-action.result c.from_residual-in_err-action.ensures.1 (want_or _ _ (wants_name _ _ m2 c.in_err-action.ensures.refused))
+
+pub returns-in_err-args-clause-only : goal.returns-in_err-args-clause-only
+returns-in_err-args-clause-only c = λ more entry rest m.
+    let r1 = after m (λ b f s. c.in_ok-keys.ensures.only more entry.keys b f (ends_sign set_signs (codes ":") b refl (begins_first s))) in
+    let m3 = after_one (after_one r1.1 c.in_ok-sign.ensures.taken) c.in_ok-action.ensures.taken in
+    or_answers _ _ _ _ _ _ c.from_residual-in_err-args.result c.from_residual-in_err-args.ensures.1 (wants m3 (λ b f s. c.in_err-args.ensures.only more entry.args b f))
+
+pub returns-in_err-sign-2-clause-only : goal.returns-in_err-sign-2-clause-only
+returns-in_err-sign-2-clause-only c = λ more entry rest m.
+    let r1 = after m (λ b f s. c.in_ok-keys.ensures.only more entry.keys b f (ends_sign set_signs (codes ":") b refl (begins_first s))) in
+    let m3 = after_one (after_one r1.1 c.in_ok-sign.ensures.taken) c.in_ok-action.ensures.taken in
+    let r4 = after m3 (λ b f s. c.in_ok-args.ensures.only more entry.args b f) in
+    or_answers _ _ _ _ _ _ c.from_residual-in_err-sign-2.result c.from_residual-in_err-sign-2.ensures.1 (want_or _ _ (wants_one _ _ (alone r4.1) c.in_err-sign-2.ensures.refused))
+
+pub returns-clause-taken : goal.returns-clause-taken
+returns-clause-taken c =
+    takes_both c.in_ok-keys.ensures.taken (takes_both c.in_ok-sign.ensures.taken (takes_both c.in_ok-action.ensures.taken (takes_both c.in_ok-args.ensures.taken c.in_ok-sign-2.ensures.taken)))
+
+pub returns-clause-only : goal.returns-clause-only
+returns-clause-only c = λ more entry rest m.
+    let r1 = after m (λ b f s. c.in_ok-keys.ensures.only more entry.keys b f (ends_sign set_signs (codes ":") b refl (begins_first s))) in
+    let m2 = after_one r1.1 c.in_ok-sign.ensures.taken in
+    let m3 = after_one m2 c.in_ok-action.ensures.taken in
+    let r4 = after m3 (λ b f s. c.in_ok-args.ensures.only more entry.args b f) in
+    (same_entry _ entry r1.0 (named_same m2 c.in_ok-action.ensures.taken) r4.0, same_end r4.1 c.in_ok-sign-2.ensures.taken)

@@ -1,0 +1,41 @@
+use Rattle.std.proofs.Common.{ap, codes}
+use Rattle.spelling.specs.Grammar.{Each}
+use Rattle.spelling.proofs.Limits.{inside, opens_or, or_answers, want_or}
+use Rattle.spelling.proofs.Only.{after, after_one, alone, begins, same_end, wants, wants_one}
+use Rattle.spelling.proofs.Taking.{takes_both, takes_bracketed}
+use Rattle.p4_tables.specs.Tables.{Property}
+use Rattle.p4_tables.proofs.EntrySpelling.{NameLine}
+use Rattle.p4_tables.proofs.properties.actions_part.Goals as goal
+
+pub returns-in_err-_inner-clause-only : goal.returns-in_err-_inner-clause-only
+returns-in_err-_inner-clause-only c = λ more names rest m.
+    let m2 = after_one (after_one m c.in_ok-fixed_name.ensures.taken) c.in_ok-sign.ensures.taken in
+    or_answers _ _ _ _ _ _ c.from_residual-in_err-_inner.result c.from_residual-in_err-_inner.ensures.1 (opens_or (codes "{") (codes "}") more c.args.depth (λ _. Each NameLine names) _ _ _ (λ few. few) m2 c.in_err-_inner.ensures.refused)
+
+pub returns-in_err-names-clause-only : goal.returns-in_err-names-clause-only
+returns-in_err-names-clause-only c = λ more names rest m.
+    let m2 = after_one (after_one m c.in_ok-fixed_name.ensures.taken) c.in_ok-sign.ensures.taken in
+    let i = inside (codes "{") (codes "}") more c.args.depth c.in_ok-_inner._inner (λ _. Each NameLine names) c.in_ok-_inner.ensures.depth m2 in
+    let m3 = after_one i.parts c.in_ok-_inner.ensures.taken in
+    or_answers _ _ _ _ _ _ c.from_residual-in_err-names.result c.from_residual-in_err-names.ensures.1 (want_or _ _ (wants m3 (λ b f s. c.in_err-names.ensures.only names b f (begins s))))
+
+pub returns-in_err-sign-2-clause-only : goal.returns-in_err-sign-2-clause-only
+returns-in_err-sign-2-clause-only c = λ more names rest m.
+    let m2 = after_one (after_one m c.in_ok-fixed_name.ensures.taken) c.in_ok-sign.ensures.taken in
+    let i = inside (codes "{") (codes "}") more c.args.depth c.in_ok-_inner._inner (λ _. Each NameLine names) c.in_ok-_inner.ensures.depth m2 in
+    let m3 = after_one i.parts c.in_ok-_inner.ensures.taken in
+    let r4 = after m3 (λ b f s. c.in_ok-names.ensures.only names b f (begins s)) in
+    or_answers _ _ _ _ _ _ c.from_residual-in_err-sign-2.result c.from_residual-in_err-sign-2.ensures.1 (want_or _ _ (wants_one _ _ (alone r4.1) c.in_err-sign-2.ensures.refused))
+
+pub returns-clause-taken : goal.returns-clause-taken
+returns-clause-taken c =
+    takes_both c.in_ok-fixed_name.ensures.taken
+    (takes_both c.in_ok-sign.ensures.taken (takes_bracketed _ _ c.args.depth c.in_ok-_inner._inner (λ _. Each NameLine c.in_ok-names.names) c.in_ok-_inner.ensures.depth c.in_ok-_inner.ensures.taken c.in_ok-names.ensures.taken c.in_ok-sign-2.ensures.taken))
+
+pub returns-clause-only : goal.returns-clause-only
+returns-clause-only c = λ more names rest m.
+    let m2 = after_one (after_one m c.in_ok-fixed_name.ensures.taken) c.in_ok-sign.ensures.taken in
+    let i = inside (codes "{") (codes "}") more c.args.depth c.in_ok-_inner._inner (λ _. Each NameLine names) c.in_ok-_inner.ensures.depth m2 in
+    let m3 = after_one i.parts c.in_ok-_inner.ensures.taken in
+    let r4 = after m3 (λ b f s. c.in_ok-names.ensures.only names b f (begins s)) in
+    (ap Property.Actions r4.0, same_end r4.1 c.in_ok-sign-2.ensures.taken)

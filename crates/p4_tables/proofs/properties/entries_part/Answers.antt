@@ -1,0 +1,41 @@
+use Rattle.std.proofs.Common.{ap, codes, map}
+use Rattle.spelling.specs.Grammar.{Each}
+use Rattle.spelling.proofs.Limits.{inside, opens_or, or_answers, or_as, want_or}
+use Rattle.spelling.proofs.Only.{after, after_one, alone, begins, same_end, wants, wants_one}
+use Rattle.spelling.proofs.Taking.{takes_both, takes_bracketed}
+use Rattle.elastic_ast.specs.Seen.{seen_entry}
+use Rattle.p4_tables.specs.Tables.{Property, SpellsEntry}
+use Rattle.p4_tables.proofs.properties.entries_part.Goals as goal
+
+pub returns-in_err-inner-clause-only : goal.returns-in_err-inner-clause-only
+returns-in_err-inner-clause-only c = λ more entries rest m.
+    let m2 = after_one (after_one (after_one m c.in_ok-reserved.ensures.taken) c.in_ok-fixed_name.ensures.taken) c.in_ok-sign.ensures.taken in
+    or_answers _ _ _ _ _ _ c.from_residual-in_err-inner.result c.from_residual-in_err-inner.ensures.1 (opens_or (codes "{") (codes "}") more c.args.depth (λ inner. Each (SpellsEntry inner) entries) _ _ _ (λ few. few) m2 c.in_err-inner.ensures.refused)
+
+pub returns-in_err-entries-clause-only : goal.returns-in_err-entries-clause-only
+returns-in_err-entries-clause-only c = λ more entries rest m.
+    let m2 = after_one (after_one (after_one m c.in_ok-reserved.ensures.taken) c.in_ok-fixed_name.ensures.taken) c.in_ok-sign.ensures.taken in
+    let i = inside (codes "{") (codes "}") more c.args.depth c.in_ok-inner.inner (λ inner. Each (SpellsEntry inner) entries) c.in_ok-inner.ensures.depth m2 in
+    let m3 = after_one i.parts c.in_ok-inner.ensures.taken in
+    or_answers _ _ _ _ _ _ c.from_residual-in_err-entries.result c.from_residual-in_err-entries.ensures.1 (wants m3 (λ b f s. or_as _ _ _ i.fewer (c.in_err-entries.ensures.only i.within entries b f (begins s))))
+
+pub returns-in_err-sign-2-clause-only : goal.returns-in_err-sign-2-clause-only
+returns-in_err-sign-2-clause-only c = λ more entries rest m.
+    let m2 = after_one (after_one (after_one m c.in_ok-reserved.ensures.taken) c.in_ok-fixed_name.ensures.taken) c.in_ok-sign.ensures.taken in
+    let i = inside (codes "{") (codes "}") more c.args.depth c.in_ok-inner.inner (λ inner. Each (SpellsEntry inner) entries) c.in_ok-inner.ensures.depth m2 in
+    let m3 = after_one i.parts c.in_ok-inner.ensures.taken in
+    let r4 = after m3 (λ b f s. c.in_ok-entries.ensures.only i.within entries b f (begins s)) in
+    or_answers _ _ _ _ _ _ c.from_residual-in_err-sign-2.result c.from_residual-in_err-sign-2.ensures.1 (want_or _ _ (wants_one _ _ (alone r4.1) c.in_err-sign-2.ensures.refused))
+
+pub returns-clause-taken : goal.returns-clause-taken
+returns-clause-taken c =
+    takes_both c.in_ok-reserved.ensures.taken (takes_both c.in_ok-fixed_name.ensures.taken
+    (takes_both c.in_ok-sign.ensures.taken (takes_bracketed _ _ c.args.depth c.in_ok-inner.inner (λ inner. Each (SpellsEntry inner) (map seen_entry c.in_ok-entries.entries)) c.in_ok-inner.ensures.depth c.in_ok-inner.ensures.taken c.in_ok-entries.ensures.taken c.in_ok-sign-2.ensures.taken)))
+
+pub returns-clause-only : goal.returns-clause-only
+returns-clause-only c = λ more entries rest m.
+    let m2 = after_one (after_one (after_one m c.in_ok-reserved.ensures.taken) c.in_ok-fixed_name.ensures.taken) c.in_ok-sign.ensures.taken in
+    let i = inside (codes "{") (codes "}") more c.args.depth c.in_ok-inner.inner (λ inner. Each (SpellsEntry inner) entries) c.in_ok-inner.ensures.depth m2 in
+    let m3 = after_one i.parts c.in_ok-inner.ensures.taken in
+    let r4 = after m3 (λ b f s. c.in_ok-entries.ensures.only i.within entries b f (begins s)) in
+    (ap Property.Entries r4.0, same_end r4.1 c.in_ok-sign-2.ensures.taken)

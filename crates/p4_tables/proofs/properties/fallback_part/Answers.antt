@@ -1,0 +1,56 @@
+use Rattle.std.proofs.Common.{ap, ◌∙◌}
+use Rattle.elastic_ast.specs.Seen.{seen_exprs}
+use Rattle.spelling.proofs.Limits.{or_answers, want_or}
+use Rattle.spelling.proofs.Only.{after, after_one, alone, begins_first, named_same, same_end, wants, wants_name, wants_one}
+use Rattle.spelling.proofs.Taking.{may_takes, takes_both}
+use Rattle.p4_tables.specs.Tables.{Property}
+use Rattle.p4_tables.proofs.properties.fallback_part.Goals as goal
+
+pub returns-in_err-const_before-clause-only : goal.returns-in_err-const_before-clause-only
+returns-in_err-const_before-clause-only c = λ more action args rest m.
+    or_answers _ _ _ _ _ _ c.from_residual.result c.from_residual.ensures.1 (want_or _ _ (wants m (λ b f s. c.in_err-const_before.ensures.only b f (begins_first s))))
+
+pub returns-in_err-fixed_name-clause-only : goal.returns-in_err-fixed_name-clause-only
+returns-in_err-fixed_name-clause-only c = λ more action args rest m.
+    let r1 = after m (λ b f s. c.in_ok-const_before.ensures.only b f (begins_first s)) in
+    or_answers _ _ _ _ _ _ c.from_residual-in_err-fixed_name.result c.from_residual-in_err-fixed_name.ensures.1 (want_or _ _ (wants_one _ _ r1.1 c.in_err-fixed_name.ensures.refused))
+
+pub returns-in_err-sign-clause-only : goal.returns-in_err-sign-clause-only
+returns-in_err-sign-clause-only c = λ more action args rest m.
+    let r1 = after m (λ b f s. c.in_ok-const_before.ensures.only b f (begins_first s)) in
+    let m2 = after_one r1.1 c.in_ok-fixed_name.ensures.taken in
+    or_answers _ _ _ _ _ _ c.from_residual-in_err-sign.result c.from_residual-in_err-sign.ensures.1 (want_or _ _ (wants_one _ _ m2 c.in_err-sign.ensures.refused))
+
+pub returns-in_err-action-clause-only : goal.returns-in_err-action-clause-only
+returns-in_err-action-clause-only c = λ more action args rest m.
+    let r1 = after m (λ b f s. c.in_ok-const_before.ensures.only b f (begins_first s)) in
+    let m3 = after_one (after_one r1.1 c.in_ok-fixed_name.ensures.taken) c.in_ok-sign.ensures.taken in
+    or_answers _ _ _ _ _ _ c.from_residual-in_err-action.result c.from_residual-in_err-action.ensures.1 (want_or _ _ (wants_name _ _ m3 c.in_err-action.ensures.refused))
+
+pub returns-in_err-args-clause-only : goal.returns-in_err-args-clause-only
+returns-in_err-args-clause-only c = λ more action args rest m.
+    let r1 = after m (λ b f s. c.in_ok-const_before.ensures.only b f (begins_first s)) in
+    let m3 = after_one (after_one r1.1 c.in_ok-fixed_name.ensures.taken) c.in_ok-sign.ensures.taken in
+    let m4 = after_one m3 c.in_ok-action.ensures.taken in
+    or_answers _ _ _ _ _ _ c.from_residual-in_err-args.result c.from_residual-in_err-args.ensures.1 (wants m4 (λ b f s. c.in_err-args.ensures.only more args b f))
+
+pub returns-in_err-sign-2-clause-only : goal.returns-in_err-sign-2-clause-only
+returns-in_err-sign-2-clause-only c = λ more action args rest m.
+    let r1 = after m (λ b f s. c.in_ok-const_before.ensures.only b f (begins_first s)) in
+    let m3 = after_one (after_one r1.1 c.in_ok-fixed_name.ensures.taken) c.in_ok-sign.ensures.taken in
+    let m4 = after_one m3 c.in_ok-action.ensures.taken in
+    let r5 = after m4 (λ b f s. c.in_ok-args.ensures.only more args b f) in
+    or_answers _ _ _ _ _ _ c.from_residual-in_err-sign-2.result c.from_residual-in_err-sign-2.ensures.1 (want_or _ _ (wants_one _ _ (alone r5.1) c.in_err-sign-2.ensures.refused))
+
+pub returns-clause-taken : goal.returns-clause-taken
+returns-clause-taken c =
+    may_takes c.in_ok-const_before.ensures.taken
+    (takes_both c.in_ok-fixed_name.ensures.taken (takes_both c.in_ok-sign.ensures.taken (takes_both c.in_ok-action.ensures.taken (takes_both c.in_ok-args.ensures.taken c.in_ok-sign-2.ensures.taken))))
+
+pub returns-clause-only : goal.returns-clause-only
+returns-clause-only c = λ more action args rest m.
+    let r1 = after m (λ b f s. c.in_ok-const_before.ensures.only b f (begins_first s)) in
+    let m3 = after_one (after_one r1.1 c.in_ok-fixed_name.ensures.taken) c.in_ok-sign.ensures.taken in
+    let m4 = after_one m3 c.in_ok-action.ensures.taken in
+    let r5 = after m4 (λ b f s. c.in_ok-args.ensures.only more args b f) in
+    (ap (λ name. Property.Fallback name (seen_exprs c.in_ok-args.args)) (named_same m3 c.in_ok-action.ensures.taken) ∙ ap (Property.Fallback action) r5.0, same_end r5.1 c.in_ok-sign-2.ensures.taken)

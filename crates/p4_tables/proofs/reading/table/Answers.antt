@@ -1,0 +1,55 @@
+use Rattle.std.proofs.Common.{ap, codes, map, sym, ◌∙◌}
+use Rattle.spelling.specs.Grammar.{Each}
+use Rattle.spelling.proofs.Limits.{inside, opens_or, or_answers, or_as, want_or}
+use Rattle.spelling.proofs.Only.{after, after_one, alone, begins, named_same, same_end, wants, wants_name, wants_one}
+use Rattle.spelling.proofs.Taking.{takes_both, takes_bracketed}
+use Rattle.p4_tables.specs.Seen.{seen_part}
+use Rattle.p4_tables.specs.Tables.{SpellsProperty, table_with}
+use Rattle.p4_tables.proofs.TableSpelling.{table_words, takes_table}
+use Rattle.p4_tables.proofs.reading.table.Goals as goal
+
+pub returns-in_err-reserved-clause-only : goal.returns-in_err-reserved-clause-only
+returns-in_err-reserved-clause-only c = λ more table rest m.
+    or_answers _ _ _ _ _ _ c.from_residual.result c.from_residual.ensures.1 (want_or _ _ (wants_one _ _ (table_words more table m) c.in_err-reserved.ensures.refused))
+
+pub returns-in_err-name-clause-only : goal.returns-in_err-name-clause-only
+returns-in_err-name-clause-only c = λ more table rest m.
+    let m1 = after_one (table_words more table m) c.in_ok-reserved.ensures.taken in
+    or_answers _ _ _ _ _ _ c.from_residual-in_err-name.result c.from_residual-in_err-name.ensures.1 (want_or _ _ (wants_name _ _ m1 c.in_err-name.ensures.refused))
+
+pub returns-in_err-inner-clause-only : goal.returns-in_err-inner-clause-only
+returns-in_err-inner-clause-only c = λ more table rest m.
+    let m2 = after_one (after_one (table_words more table m) c.in_ok-reserved.ensures.taken) c.in_ok-name.ensures.taken in
+    or_answers _ _ _ _ _ _ c.from_residual-in_err-inner.result c.from_residual-in_err-inner.ensures.1
+    (opens_or (codes "{") (codes "}") more c.args.depth (λ inner. Each (SpellsProperty inner) m.spelled.properties) _ _ _ (λ few. few) m2 c.in_err-inner.ensures.refused)
+
+pub returns-in_err-parts-clause-only : goal.returns-in_err-parts-clause-only
+returns-in_err-parts-clause-only c = λ more table rest m.
+    let m2 = after_one (after_one (table_words more table m) c.in_ok-reserved.ensures.taken) c.in_ok-name.ensures.taken in
+    let i = inside (codes "{") (codes "}") more c.args.depth c.in_ok-inner.inner (λ inner. Each (SpellsProperty inner) m.spelled.properties) c.in_ok-inner.ensures.depth m2 in
+    let m3 = after_one i.parts c.in_ok-inner.ensures.taken in
+    or_answers _ _ _ _ _ _ c.from_residual-in_err-parts.result c.from_residual-in_err-parts.ensures.1
+    (wants m3 (λ b f s. or_as _ _ _ i.fewer (c.in_err-parts.ensures.only i.within m.spelled.properties b f m.spelled.no_two (begins s))))
+
+pub returns-in_err-sign-clause-only : goal.returns-in_err-sign-clause-only
+returns-in_err-sign-clause-only c = λ more table rest m.
+    let m2 = after_one (after_one (table_words more table m) c.in_ok-reserved.ensures.taken) c.in_ok-name.ensures.taken in
+    let i = inside (codes "{") (codes "}") more c.args.depth c.in_ok-inner.inner (λ inner. Each (SpellsProperty inner) m.spelled.properties) c.in_ok-inner.ensures.depth m2 in
+    let m3 = after_one i.parts c.in_ok-inner.ensures.taken in
+    let r4 = after m3 (λ b f s. c.in_ok-parts.ensures.only i.within m.spelled.properties b f m.spelled.no_two (begins s)) in
+    or_answers _ _ _ _ _ _ c.from_residual-in_err-sign.result c.from_residual-in_err-sign.ensures.1 (want_or _ _ (wants_one _ _ (alone r4.1) c.in_err-sign.ensures.refused))
+
+pub returns-clause-taken : goal.returns-clause-taken
+returns-clause-taken c =
+    takes_table c.args.depth c.in_ok-name.name (map seen_part c.in_ok-parts.parts) _ c.table_of.ensures c.in_ok-parts.ensures.no_two
+    (takes_both c.in_ok-reserved.ensures.taken
+    (takes_both c.in_ok-name.ensures.taken (takes_bracketed _ _ c.args.depth c.in_ok-inner.inner (λ inner. Each (SpellsProperty inner) (map seen_part c.in_ok-parts.parts)) c.in_ok-inner.ensures.depth c.in_ok-inner.ensures.taken c.in_ok-parts.ensures.taken c.in_ok-sign.ensures.taken)))
+
+pub returns-clause-only : goal.returns-clause-only
+returns-clause-only c = λ more table rest m.
+    let m1 = after_one (table_words more table m) c.in_ok-reserved.ensures.taken in
+    let m2 = after_one m1 c.in_ok-name.ensures.taken in
+    let i = inside (codes "{") (codes "}") more c.args.depth c.in_ok-inner.inner (λ inner. Each (SpellsProperty inner) m.spelled.properties) c.in_ok-inner.ensures.depth m2 in
+    let m3 = after_one i.parts c.in_ok-inner.ensures.taken in
+    let r4 = after m3 (λ b f s. c.in_ok-parts.ensures.only i.within m.spelled.properties b f m.spelled.no_two (begins s)) in
+    (c.table_of.ensures ∙ ap (table_with c.in_ok-name.name) r4.0 ∙ ap (λ name. table_with name m.spelled.properties) (named_same m1 c.in_ok-name.ensures.taken) ∙ sym m.spelled.has_them, same_end r4.1 c.in_ok-sign.ensures.taken)
