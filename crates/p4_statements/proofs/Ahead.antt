@@ -86,15 +86,15 @@ place_no_index {a = a} p at = not_both (codes ".") (codes "[") (drop 1 a) refl p
 pub place_no_call : {a : List Word} → PlaceAhead a → Begins (IsSign (codes "(")) (drop 3 a) → ⊥
 place_no_call {a = a} p at =
     elim p.third [
-      inl h ↦ not_both (codes ".") (codes "(") (drop 3 a) refl h.0 at
-    | inr h ↦ elim h [ inl e ↦ not_both (codes "=") (codes "(") (drop 3 a) refl e at | inr b ↦ not_both (codes "[") (codes "(") (drop 3 a) refl b at ]
+      | inl h ↦ not_both (codes ".") (codes "(") (drop 3 a) refl h.0 at
+      | inr h ↦ elim h [ inl e ↦ not_both (codes "=") (codes "(") (drop 3 a) refl e at | inr b ↦ not_both (codes "[") (codes "(") (drop 3 a) refl b at ]
     ]
 
 pub place_no_validity : {a : List Word} → PlaceAhead a → Begins (IsSign (codes ".")) (drop 3 a) → Begins (IsSign (codes "(")) (drop 5 a) → ⊥
 place_no_validity {a = a} p dot at =
     elim p.third [
-      inl h ↦ not_both (codes "=") (codes "(") (drop 5 a) refl h.1 at
-    | inr h ↦ elim h [ inl e ↦ not_both (codes "=") (codes ".") (drop 3 a) refl e dot | inr b ↦ not_both (codes "[") (codes ".") (drop 3 a) refl b dot ]
+      | inl h ↦ not_both (codes "=") (codes "(") (drop 5 a) refl h.1 at
+      | inr h ↦ elim h [ inl e ↦ not_both (codes "=") (codes ".") (drop 3 a) refl e dot | inr b ↦ not_both (codes "[") (codes ".") (drop 3 a) refl b dot ]
     ]
 
 -- the words up to the bracket behind a change of validity
@@ -158,8 +158,8 @@ call_ahead more of (Some index) Between m = inl (index_first more index m)
 pub write_ahead : (more : ℕ) (register : RegRef) (cell value : PlainExpr) {a c : List Word} → MayTake (SpellsPlain more (PlainStmt.Write register cell value)) a c → Begins (IsSign (codes "[")) (drop 1 a) ⊎ Begins (IsSign (codes "(")) (drop 3 a)
 write_ahead more register cell value {a = a} m =
     elim (call_ahead more (codes "write") register.index _ (behind_first (regroup m))) [
-      inl h ↦ inl h.0
-    | inr h ↦ inr (at_third (Begins (IsSign (codes "("))) a h.2)
+      | inl h ↦ inl h.0
+      | inr h ↦ inr (at_third (Begins (IsSign (codes "("))) a h.2)
     ]
 
 -- and a read by its first words
@@ -167,8 +167,8 @@ pub read_ahead : (more : ℕ) (register : RegRef) (cell : PlainExpr) {a c : List
 read_ahead more register cell {a = a} m =
     let first = begins_as (λ word h. h.0) a (begins_first (regroup m)) in
     elim (call_ahead more (codes "read") register.index _ (behind_first (regroup m))) [
-      inl h ↦ (first, inl (h.0, at_second (Begins (λ word. word.kind ≡ kind.Name)) a h.1))
-    | inr h ↦ (first, inr (h.0, at_second (Begins (IsNamed (codes "read"))) a h.1, at_third (Begins (IsSign (codes "("))) a h.2))
+      | inl h ↦ (first, inl (h.0, at_second (Begins (λ word. word.kind ≡ kind.Name)) a h.1))
+      | inr h ↦ (first, inr (h.0, at_second (Begins (IsNamed (codes "read"))) a h.1, at_third (Begins (IsSign (codes "("))) a h.2))
     ]
 
 -- a test that denied it

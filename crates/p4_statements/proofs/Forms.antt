@@ -1,5 +1,5 @@
 -- The forms of statements, each told by its first word, as rows of words.
-use Rattle.std.proofs.Common.{◌≡◌, ◌≤◌, ℕ, zero, suc, Bool, true, false, List, [], ◌∷◌, ◌++◌, Option, Some, None, codes, refl, sym, ap, subst, ◌∙◌, ◌⊎◌, inl, inr, append_assoc}
+use Rattle.std.proofs.Common.{◌≡◌, ◌≤◌, ◌-◌, ℕ, zero, suc, arith, Bool, true, false, List, [], ◌∷◌, ◌++◌, Option, Some, None, codes, refl, sym, ap, subst, ◌∙◌, ◌⊎◌, inl, inr, append_assoc}
 use Rattle.p4_lexer.specs.declared.token.Kind.TheVariants as kind
 use Rattle.elastic_ast.specs.Tree.{Name, PlainExpr, PlainStmt, PlainStmts}
 use Rattle.spelling.specs.Words.{Word}
@@ -101,7 +101,7 @@ pub data Form (more : ℕ) (open_end : Bool) (stmt : PlainStmt) (a c : List Word
   a_for : ForParts more stmt a c → Begins (IsReserved (codes "for")) a → Form more open_end stmt a c
   a_simple : MayTake (SpellsSimple more stmt) a c → Begins (λ word. word.kind ≡ kind.Name) a → Form more open_end stmt a c
 
-braces_begin : (more : ℕ) (body : PlainStmts) {a c : List Word} → MayTake (Braces more body) a c → Begins (IsSign (codes "{")) a
+pub braces_begin : (more : ℕ) (body : PlainStmts) {a c : List Word} → MayTake (Braces more body) a c → Begins (IsSign (codes "{")) a
 braces_begin zero body m = absurd m.spelled
 braces_begin (suc more) body m = begins_first m
 
@@ -177,62 +177,62 @@ no_brace ws f g (inr h) = g h
 pub is_block : (more : ℕ) (open_end : Bool) (stmt : PlainStmt) {a c : List Word} → MayTake (SpellsStmt more open_end stmt) a c → Begins (IsSign (codes "{")) a ⊎ Begins (IsSign (codes "@")) a → BlockParts more stmt a c
 is_block more open_end stmt {a = a} m at =
     elim (stmt_form more open_end stmt m) [
-      a_block p _ ↦ p
-    | an_if p w ↦ absurd (no_brace a (reserved_no_sign_there (codes "if") (codes "{") a w) (reserved_no_sign_there (codes "if") (codes "@") a w) at)
-    | an_else p w ↦ absurd (no_brace a (reserved_no_sign_there (codes "if") (codes "{") a w) (reserved_no_sign_there (codes "if") (codes "@") a w) at)
-    | a_for p w ↦ absurd (no_brace a (reserved_no_sign_there (codes "for") (codes "{") a w) (reserved_no_sign_there (codes "for") (codes "@") a w) at)
-    | a_simple p w ↦ absurd (no_brace a (name_no_sign (codes "{") a w) (name_no_sign (codes "@") a w) at)
+      | a_block p _ ↦ p
+      | an_if p w ↦ absurd (no_brace a (reserved_no_sign_there (codes "if") (codes "{") a w) (reserved_no_sign_there (codes "if") (codes "@") a w) at)
+      | an_else p w ↦ absurd (no_brace a (reserved_no_sign_there (codes "if") (codes "{") a w) (reserved_no_sign_there (codes "if") (codes "@") a w) at)
+      | a_for p w ↦ absurd (no_brace a (reserved_no_sign_there (codes "for") (codes "{") a w) (reserved_no_sign_there (codes "for") (codes "@") a w) at)
+      | a_simple p w ↦ absurd (no_brace a (name_no_sign (codes "{") a w) (name_no_sign (codes "@") a w) at)
     ]
 
 pub is_for : (more : ℕ) (open_end : Bool) (stmt : PlainStmt) {a c : List Word} → MayTake (SpellsStmt more open_end stmt) a c → Begins (IsReserved (codes "for")) a → ForParts more stmt a c
 is_for more open_end stmt {a = a} m at =
     elim (stmt_form more open_end stmt m) [
-      a_block p w ↦ absurd (no_brace a (reserved_no_sign_there (codes "for") (codes "{") a at) (reserved_no_sign_there (codes "for") (codes "@") a at) w)
-    | an_if p w ↦ absurd (other_text (codes "if") (codes "for") a refl (λ word h. h.1) (λ word h. h.1) w at)
-    | an_else p w ↦ absurd (other_text (codes "if") (codes "for") a refl (λ word h. h.1) (λ word h. h.1) w at)
-    | a_for p w ↦ p
-    | a_simple p w ↦ absurd (name_no_reserved (codes "for") a w at)
+      | a_block p w ↦ absurd (no_brace a (reserved_no_sign_there (codes "for") (codes "{") a at) (reserved_no_sign_there (codes "for") (codes "@") a at) w)
+      | an_if p w ↦ absurd (other_text (codes "if") (codes "for") a refl (λ word h. h.1) (λ word h. h.1) w at)
+      | an_else p w ↦ absurd (other_text (codes "if") (codes "for") a refl (λ word h. h.1) (λ word h. h.1) w at)
+      | a_for p w ↦ p
+      | a_simple p w ↦ absurd (name_no_reserved (codes "for") a w at)
     ]
 
 pub is_if : (more : ℕ) (open_end : Bool) (stmt : PlainStmt) {a c : List Word} → MayTake (SpellsStmt more open_end stmt) a c → Begins (IsReserved (codes "if")) a → IfParts more open_end stmt a c ⊎ ElseParts more open_end stmt a c
 is_if more open_end stmt {a = a} m at =
     elim (stmt_form more open_end stmt m) [
-      a_block p w ↦ absurd (no_brace a (reserved_no_sign_there (codes "if") (codes "{") a at) (reserved_no_sign_there (codes "if") (codes "@") a at) w)
-    | an_if p w ↦ inl p
-    | an_else p w ↦ inr p
-    | a_for p w ↦ absurd (other_text (codes "for") (codes "if") a refl (λ word h. h.1) (λ word h. h.1) w at)
-    | a_simple p w ↦ absurd (name_no_reserved (codes "if") a w at)
+      | a_block p w ↦ absurd (no_brace a (reserved_no_sign_there (codes "if") (codes "{") a at) (reserved_no_sign_there (codes "if") (codes "@") a at) w)
+      | an_if p w ↦ inl p
+      | an_else p w ↦ inr p
+      | a_for p w ↦ absurd (other_text (codes "for") (codes "if") a refl (λ word h. h.1) (λ word h. h.1) w at)
+      | a_simple p w ↦ absurd (name_no_reserved (codes "if") a w at)
     ]
 
 pub is_simple : (more : ℕ) (open_end : Bool) (stmt : PlainStmt) {a c : List Word} → MayTake (SpellsStmt more open_end stmt) a c → (Begins (IsSign (codes "{")) a → ⊥) → (Begins (IsSign (codes "@")) a → ⊥) → (Begins (IsReserved (codes "if")) a → ⊥) → (Begins (IsReserved (codes "for")) a → ⊥) → MayTake (SpellsSimple more stmt) a c
 is_simple more open_end stmt {a = a} m no_open no_stage no_if no_for =
     elim (stmt_form more open_end stmt m) [
-      a_block p w ↦ absurd (no_brace a no_open no_stage w)
-    | an_if p w ↦ absurd (no_if w)
-    | an_else p w ↦ absurd (no_if w)
-    | a_for p w ↦ absurd (no_for w)
-    | a_simple p w ↦ p
+      | a_block p w ↦ absurd (no_brace a no_open no_stage w)
+      | an_if p w ↦ absurd (no_if w)
+      | an_else p w ↦ absurd (no_if w)
+      | a_for p w ↦ absurd (no_for w)
+      | a_simple p w ↦ p
     ]
 
 -- no statement begins with a closing bracket, nor with `else`
 pub stmt_no_closing : (more : ℕ) (open_end : Bool) (stmt : PlainStmt) {a c : List Word} → MayTake (SpellsStmt more open_end stmt) a c → Begins (IsSign (codes "}")) a → ⊥
 stmt_no_closing more open_end stmt {a = a} m at =
     elim (stmt_form more open_end stmt m) [
-      a_block p w ↦ no_brace a (λ h. not_both (codes "{") (codes "}") a refl h at) (λ h. not_both (codes "@") (codes "}") a refl h at) w
-    | an_if p w ↦ reserved_no_sign_there (codes "if") (codes "}") a w at
-    | an_else p w ↦ reserved_no_sign_there (codes "if") (codes "}") a w at
-    | a_for p w ↦ reserved_no_sign_there (codes "for") (codes "}") a w at
-    | a_simple p w ↦ name_no_sign (codes "}") a w at
+      | a_block p w ↦ no_brace a (λ h. not_both (codes "{") (codes "}") a refl h at) (λ h. not_both (codes "@") (codes "}") a refl h at) w
+      | an_if p w ↦ reserved_no_sign_there (codes "if") (codes "}") a w at
+      | an_else p w ↦ reserved_no_sign_there (codes "if") (codes "}") a w at
+      | a_for p w ↦ reserved_no_sign_there (codes "for") (codes "}") a w at
+      | a_simple p w ↦ name_no_sign (codes "}") a w at
     ]
 
 pub stmt_no_else : (more : ℕ) (open_end : Bool) (stmt : PlainStmt) {a c : List Word} → MayTake (SpellsStmt more open_end stmt) a c → Begins (IsReserved (codes "else")) a → ⊥
 stmt_no_else more open_end stmt {a = a} m at =
     elim (stmt_form more open_end stmt m) [
-      a_block p w ↦ no_brace a (reserved_no_sign_there (codes "else") (codes "{") a at) (reserved_no_sign_there (codes "else") (codes "@") a at) w
-    | an_if p w ↦ other_text (codes "if") (codes "else") a refl (λ word h. h.1) (λ word h. h.1) w at
-    | an_else p w ↦ other_text (codes "if") (codes "else") a refl (λ word h. h.1) (λ word h. h.1) w at
-    | a_for p w ↦ other_text (codes "for") (codes "else") a refl (λ word h. h.1) (λ word h. h.1) w at
-    | a_simple p w ↦ name_no_reserved (codes "else") a w at
+      | a_block p w ↦ no_brace a (reserved_no_sign_there (codes "else") (codes "{") a at) (reserved_no_sign_there (codes "else") (codes "@") a at) w
+      | an_if p w ↦ other_text (codes "if") (codes "else") a refl (λ word h. h.1) (λ word h. h.1) w at
+      | an_else p w ↦ other_text (codes "if") (codes "else") a refl (λ word h. h.1) (λ word h. h.1) w at
+      | a_for p w ↦ other_text (codes "for") (codes "else") a refl (λ word h. h.1) (λ word h. h.1) w at
+      | a_simple p w ↦ name_no_reserved (codes "else") a w at
     ]
 
 plain_bare : (depth : ℕ) (stmt : PlainStmt) (ws : List Word) → SpellsPlain depth stmt ws → is_bare_block stmt ≡ false
@@ -324,3 +324,6 @@ one_of depth open_end stmt other ws h = one_statement other h
 pub closed_end : (open_end : Bool) (ws : List Word) → EndsStmt open_end ws → Begins (IsReserved (codes "else")) ws → open_end ≡ false
 closed_end true ws ends at = absurd (ends refl at)
 closed_end false ws ends at = refl
+
+pub one_less : (n : ℕ) → (n ≡ 0 → ⊥) → n ≡ suc (n - 1)
+one_less n some = omega (arith, some)

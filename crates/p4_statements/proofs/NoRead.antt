@@ -73,8 +73,8 @@ sign_no_name sign ws at read = no_name ws (λ word h is. let e : is_sign word.ki
 after_dot : (ws : List Word) → Begins (IsSign (codes ".")) (drop 1 ws) → IsReadAhead ws → Begins (IsSign (codes "(")) (drop 3 ws)
 after_dot ws dot read =
     elim read.1 [
-      inl h ↦ absurd (not_both (codes ".") (codes "[") (drop 1 ws) refl dot h.0)
-    | inr h ↦ h.2
+      | inl h ↦ absurd (not_both (codes ".") (codes "[") (drop 1 ws) refl dot h.0)
+      | inr h ↦ h.2
     ]
 
 after_two_dots : (ws : List Word) → Begins (IsSign (codes ".")) (drop 1 ws) → Begins (IsSign (codes ".")) (drop 3 ws) → IsReadAhead ws → ⊥
@@ -112,10 +112,10 @@ name_no_read : {w : Word} {a rest : List Word} → a ≡ w ∷ rest → Quiet re
 name_no_read {a = a} {rest = rest} e q read =
     let same : drop 1 a ≡ rest = ap (drop 1) e in
     elim read.1 [
-      inl h ↦
+      | inl h ↦
           let is_name = subst (λ ws. Begins (λ word. word.kind ≡ kind.Name) (drop 1 ws)) same (earlier_word (Begins (λ word. word.kind ≡ kind.Name)) 1 a h.1) in
           name_no_number (drop 1 rest) is_name (q.no_index (subst (Begins (IsSign (codes "["))) same h.0))
-    | inr h ↦ q.no_dot (subst (Begins (IsSign (codes "."))) same h.0)
+      | inr h ↦ q.no_dot (subst (Begins (IsSign (codes "."))) same h.0)
     ]
 
 -- nor where a bracket stands second

@@ -63,7 +63,11 @@ fn arguments(alloc: Global, reader: &mut Reader<'_>, depth: u32) -> Result<Items
 }
 
 /// At least one expression, with a comma between each two.
-fn expressions(alloc: Global, reader: &mut Reader<'_>, depth: u32) -> Result<Items<Expr>, SyntaxError>
+fn expressions(
+    alloc: Global,
+    reader: &mut Reader<'_>,
+    depth: u32,
+) -> Result<Items<Expr>, SyntaxError>
     ensures taken { IfOk result (λ args. Takes (Separated (Sign (codes ",")) (SpellsExpr depth) (seen_exprs args)) (ahead reader.old) (ahead reader.new)) }
     ensures few { IfOk result (λ args. All HasFewOperators (seen_exprs args)) }
     ensures only { (more : ℕ) (args : List PlainExpr) (rest : List Word) → MayTake (Separated (Sign (codes ",")) (SpellsExpr more) args) (ahead reader.old) rest → Begins (IsSign (codes ")")) rest → IsReading ((more ≤ depth) × All HasFewOperators args) seen_exprs args rest (ahead reader.new) result }

@@ -15,13 +15,17 @@ ghost use Rattle.p4_statements.specs.Reading.{Assigns, HasFew, HaveFew, IsReadAh
 use crate::brackets::{bracketed, two};
 use elastic_ast::{Lval, Stmt};
 use elx_bits::Items;
-use p4_lexer::Kind;
 use p4_expr::{header, lval, no_arguments, read_expr, register};
+use p4_lexer::Kind;
 use spelling::{Reader, SyntaxError, keep};
 use std::alloc::Global;
 
 /// Reads plain statements up to a closing bracket. `depth` is how many brackets may be open from here on.
-pub fn plain_statements(alloc: Global, reader: &mut Reader<'_>, depth: u32) -> Result<Items<Stmt>, SyntaxError>
+pub fn plain_statements(
+    alloc: Global,
+    reader: &mut Reader<'_>,
+    depth: u32,
+) -> Result<Items<Stmt>, SyntaxError>
     ensures taken { IfOk result (λ stmts. MayTake (SpellsPlains depth (seen_stmts stmts)) (ahead reader.old) (ahead reader.new)) }
     ensures few { IfOk result (λ stmts. HaveFew (seen_stmts stmts)) }
     ensures ended { OnOk result (Begins (IsSign (codes "}")) (ahead reader.new)) }
@@ -36,7 +40,11 @@ pub fn plain_statements(alloc: Global, reader: &mut Reader<'_>, depth: u32) -> R
 }
 
 /// Reads a plain statement. `depth` is how many brackets may be open from here on.
-pub fn plain_statement(alloc: Global, reader: &mut Reader<'_>, depth: u32) -> Result<Stmt, SyntaxError>
+pub fn plain_statement(
+    alloc: Global,
+    reader: &mut Reader<'_>,
+    depth: u32,
+) -> Result<Stmt, SyntaxError>
     ensures taken { IfOk result (λ stmt. Takes (SpellsPlain depth (seen_stmt stmt)) (ahead reader.old) (ahead reader.new)) }
     ensures few { IfOk result (λ stmt. HasFew (seen_stmt stmt)) }
     ensures only { (more : ℕ) (stmt : PlainStmt) (rest : List Word) → MayTake (SpellsPlain more stmt) (ahead reader.old) rest → IsReading ((more ≤ depth) × HasFew stmt) seen_stmt stmt rest (ahead reader.new) result }

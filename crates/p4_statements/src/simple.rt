@@ -16,7 +16,11 @@ use std::alloc::Global;
 
 /// Reads a call of an action, an application of a table or a plain statement, which the first words tell apart. `depth` is how
 /// many brackets may be open from here on.
-pub fn simple_statement(alloc: Global, reader: &mut Reader<'_>, depth: u32) -> Result<Stmt, SyntaxError>
+pub fn simple_statement(
+    alloc: Global,
+    reader: &mut Reader<'_>,
+    depth: u32,
+) -> Result<Stmt, SyntaxError>
     ensures taken { IfOk result (λ stmt. Takes (SpellsSimple depth (seen_stmt stmt)) (ahead reader.old) (ahead reader.new)) }
     ensures few { IfOk result (λ stmt. HasFew (seen_stmt stmt)) }
     ensures only { (more : ℕ) (stmt : PlainStmt) (rest : List Word) → MayTake (SpellsSimple more stmt) (ahead reader.old) rest → IsReading ((more ≤ depth) × HasFew stmt) seen_stmt stmt rest (ahead reader.new) result }

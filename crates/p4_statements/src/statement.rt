@@ -1,6 +1,6 @@
 //! The reader of statements.
 
-ghost use Rattle.std.specs.Prelude.{◌≡◌, ℕ, ◌≤◌, Bool, false, List, Option, codes, IfOk, OnOk, ◌⊎◌};
+ghost use Rattle.std.specs.Prelude.{◌≡◌, ℕ, ◌≤◌, ◌↔◌, Bool, false, IsTrue, List, Option, codes, IfOk, OnOk, ◌⊎◌};
 ghost use Rattle.elastic_ast.specs.Seen.{seen_expr, seen_stmt, seen_stmts};
 ghost use Rattle.elastic_ast.specs.Tree.{PlainExpr, PlainStmt, PlainStmts};
 ghost use Rattle.spelling.specs.Words.{Word};
@@ -22,7 +22,11 @@ use std::alloc::Global;
 /// NotProgram names the token at which the reading stopped; TooDeep the token at which too many brackets are open, a branch that
 /// is no block counted as one, or an expression has too many operators; Memory comes for want of memory.
 #[cycle(statements)]
-pub fn statements(alloc: Global, reader: &mut Reader<'_>, depth: u32) -> Result<Items<Stmt>, SyntaxError>
+pub fn statements(
+    alloc: Global,
+    reader: &mut Reader<'_>,
+    depth: u32,
+) -> Result<Items<Stmt>, SyntaxError>
     ensures taken { IfOk result (λ stmts. MayTake (SpellsStmts depth (seen_stmts stmts)) (ahead reader.old) (ahead reader.new)) }
     ensures few { IfOk result (λ stmts. HaveFew (seen_stmts stmts)) }
     ensures ended { OnOk result (Begins (IsSign (codes "}")) (ahead reader.new)) }
@@ -43,7 +47,7 @@ fn statement(alloc: Global, reader: &mut Reader<'_>, depth: u32) -> Result<Stmt,
     ensures few { IfOk result (λ stmt. HasFew (seen_stmt stmt)) }
     ensures only { (more : ℕ) (open_end : Bool) (stmt : PlainStmt) (rest : List Word) → MayTake (SpellsStmt more open_end stmt) (ahead reader.old) rest → EndsStmt open_end rest → IsReading ((more ≤ depth) × HasFew stmt) seen_stmt stmt rest (ahead reader.new) result }
 {
-    if reader.is_at_sign(b"{") || reader.is_at_sign(b"@") {
+    if is_at_block(reader) {
         return block(alloc, reader, depth);
     }
     if reader.is_at_reserved(b"if") {
@@ -134,6 +138,13 @@ fn in_braces(alloc: Global, reader: &mut Reader<'_>, depth: u32) -> Result<Items
     let stmts = statements(alloc, reader, inner)?;
     reader.sign(b"}")?;
     Ok(stmts)
+}
+
+/// Whether a block stands next, perhaps with its stage before it.
+fn is_at_block(reader: &Reader<'_>) -> bool
+    ensures { IsTrue result ↔ Begins (IsSign (codes "{")) (ahead reader.now) ⊎ Begins (IsSign (codes "@")) (ahead reader.now) }
+{
+    reader.is_at_sign(b"{") || reader.is_at_sign(b"@")
 }
 
 /// `@stage(STAGE)`, where it is there.

@@ -16,7 +16,7 @@ use Rattle.p4_statements.specs.Reading.{HasFew, SpellsSimple}
 use Rattle.p4_statements.proofs.calls.apply.Goals as goal
 
 pub returns-clause-taken : goal.returns-clause-taken
-returns-clause-taken c = 
+returns-clause-taken c =
     subst (λ s. Takes (SpellsSimple c.args.depth s) (ahead c.args.reader.now) (ahead c.sign-2.new.self)) (sym (seen_stmt-apply c.in_ok-table.table))
     (takes_both c.in_ok-table.ensures.taken (takes_both c.in_ok-sign.ensures.taken (takes_both c.in_ok-fixed_name.ensures.taken (takes_both c.in_ok-no_arguments.ensures.taken c.in_ok-sign-2.ensures.taken))))
 

@@ -25,7 +25,7 @@ returns-in_err-inner-clause-only c = λ more args rest m.
     or_answers _ _ _ _ _ _ c.from_residual.result c.from_residual.ensures.1 (opens_or (codes "(") (codes ")") more c.args.depth (λ n. Commas (SpellsExpr n) args) _ _ _ (λ few. few.0) m c.in_err-inner.ensures.refused)
 
 pub returns-then-eat_sign-clause-taken : goal.returns-then-eat_sign-clause-taken
-returns-then-eat_sign-clause-taken c = 
+returns-then-eat_sign-clause-taken c =
     rw c.new.ensures
     (takes_bracketed _ _ c.args.depth c.in_ok-inner.inner (λ n. Commas (SpellsExpr n) []) c.in_ok-inner.ensures.depth c.in_ok-inner.ensures.taken may_empty (c.if-eat_sign.ensures.taken refl))
 
@@ -54,7 +54,7 @@ returns-in_err-sign-clause-only c = λ more args rest m.
     or_answers _ _ _ _ _ _ c.from_residual-in_err-sign.result c.from_residual-in_err-sign.ensures.1 (want_or _ _ (wants_one _ _ (alone m4.1) c.in_err-sign.ensures.refused))
 
 pub returns-clause-taken : goal.returns-clause-taken
-returns-clause-taken c = 
+returns-clause-taken c =
     let opened = stays_open (c.if-eat_sign.ensures.left refl) c.in_ok-inner.ensures.taken in
     takes_bracketed _ _ c.args.depth c.in_ok-inner.inner (λ n. Commas (SpellsExpr n) (seen_exprs c.in_ok-args.args)) c.in_ok-inner.ensures.depth opened (take_commas c.in_ok-inner.inner (seen_exprs c.in_ok-args.args) c.in_ok-args.ensures.taken) c.in_ok-sign.ensures.taken
 

@@ -35,7 +35,7 @@ returns-in_err-sign-clause-only c = λ more action index args rest m.
     or_answers _ _ _ _ _ _ c.from_residual-in_err-sign.result c.from_residual-in_err-sign.ensures.1 (want_or _ _ (wants_one _ _ (alone m3.1) c.in_err-sign.ensures.refused))
 
 pub returns-clause-taken : goal.returns-clause-taken
-returns-clause-taken c = 
+returns-clause-taken c =
     subst (λ s. Takes (SpellsSimple c.args.depth s) (ahead c.args.reader.now) (ahead c.sign.new.self)) (sym (seen_stmt-call c.in_ok-action.action c.in_ok-index.index c.in_ok-args.args))
     (takes_both c.in_ok-action.ensures.taken (may_takes c.in_ok-index.ensures.taken (takes_both c.in_ok-args.ensures.taken c.in_ok-sign.ensures.taken)))
 

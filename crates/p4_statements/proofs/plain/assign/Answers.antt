@@ -17,11 +17,11 @@ use Rattle.p4_statements.proofs.plain.assign.Goals as goal
 
 pub returns-clause-taken : goal.returns-clause-taken
 returns-clause-taken c = record {
-      value = seen_expr c.in_ok-value.value;
-      is = seen_stmt-assign c.args.to c.in_ok-value.value;
-      few = c.in_ok-value.ensures.few;
-      taken = takes_both c.in_ok-value.ensures.taken c.in_ok-sign.ensures.taken;
-    }
+  value = seen_expr c.in_ok-value.value;
+  is = seen_stmt-assign c.args.to c.in_ok-value.value;
+  few = c.in_ok-value.ensures.few;
+  taken = takes_both c.in_ok-value.ensures.taken c.in_ok-sign.ensures.taken;
+}
 
 pub returns-in_err-value-clause-only : goal.returns-in_err-value-clause-only
 returns-in_err-value-clause-only c = λ more value rest m.

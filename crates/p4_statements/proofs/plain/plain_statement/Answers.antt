@@ -54,11 +54,11 @@ returns-in_err-sign-clause-only c = λ more stmt rest m.
     (λ header on f. let v = validity_ahead more header on f in absurd (not_there c.if-is_at_validity.ensures.1 (v.third, v.call)))
 
 pub returns-then-is_at_read-clause-taken : goal.returns-then-is_at_read-clause-taken
-returns-then-is_at_read-clause-taken c = 
+returns-then-is_at_read-clause-taken c =
     if_ok_as (λ s. ReadsInto c.args.depth c.in_ok-to.to (ahead c.sign.new.self) (ahead c.read.new.reader) (seen_stmt s)) _ _ (λ s r. subst (λ p. Takes (SpellsPlain c.args.depth p) (ahead c.args.reader.now) (ahead c.read.new.reader)) (sym r.is) (takes_both c.in_ok-to.ensures.taken (takes_both c.in_ok-sign.ensures.taken r.taken))) c.read.ensures.taken
 
 pub returns-then-is_at_read-clause-few : goal.returns-then-is_at_read-clause-few
-returns-then-is_at_read-clause-few c = 
+returns-then-is_at_read-clause-few c =
     if_ok_as (λ s. ReadsInto c.args.depth c.in_ok-to.to (ahead c.sign.new.self) (ahead c.read.new.reader) (seen_stmt s)) _ _ (λ s r. subst HasFew (sym r.is) (All-cons HasFewOperators r.cell [] r.few (All-nil HasFewOperators))) c.read.ensures.taken
 
 pub returns-then-is_at_read-clause-only : goal.returns-then-is_at_read-clause-only
@@ -70,11 +70,11 @@ returns-then-is_at_read-clause-only c = λ more stmt rest m.
     (λ header on f. let v = validity_ahead more header on f in absurd (not_there c.if-is_at_validity.ensures.1 (v.third, v.call)))
 
 pub returns-clause-taken : goal.returns-clause-taken
-returns-clause-taken c = 
+returns-clause-taken c =
     if_ok_as (λ s. Assigns c.args.depth c.in_ok-to.to (ahead c.sign.new.self) (ahead c.assign.new.reader) (seen_stmt s)) _ _ (λ s r. subst (λ p. Takes (SpellsPlain c.args.depth p) (ahead c.args.reader.now) (ahead c.assign.new.reader)) (sym r.is) (takes_both c.in_ok-to.ensures.taken (takes_both c.in_ok-sign.ensures.taken r.taken))) c.assign.ensures.taken
 
 pub returns-clause-few : goal.returns-clause-few
-returns-clause-few c = 
+returns-clause-few c =
     if_ok_as (λ s. Assigns c.args.depth c.in_ok-to.to (ahead c.sign.new.self) (ahead c.assign.new.reader) (seen_stmt s)) _ _ (λ s r. subst HasFew (sym r.is) (All-cons HasFewOperators r.value [] r.few (All-nil HasFewOperators))) c.assign.ensures.taken
 
 pub returns-clause-only : goal.returns-clause-only

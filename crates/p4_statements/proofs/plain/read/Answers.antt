@@ -17,12 +17,12 @@ use Rattle.p4_statements.proofs.plain.read.Goals as goal
 
 pub returns-clause-taken : goal.returns-clause-taken
 returns-clause-taken c = record {
-      register = c.in_ok-reg.reg;
-      cell = seen_expr c.in_ok-cell.cell;
-      is = seen_stmt-read c.args.to c.in_ok-reg.reg c.in_ok-cell.cell;
-      few = c.in_ok-cell.ensures.few;
-      taken = takes_both c.in_ok-reg.ensures.taken (takes_both c.in_ok-sign.ensures.taken (takes_both c.in_ok-fixed_name.ensures.taken (takes_both c.in_ok-cell.ensures.taken c.in_ok-sign-2.ensures.taken)));
-    }
+  register = c.in_ok-reg.reg;
+  cell = seen_expr c.in_ok-cell.cell;
+  is = seen_stmt-read c.args.to c.in_ok-reg.reg c.in_ok-cell.cell;
+  few = c.in_ok-cell.ensures.few;
+  taken = takes_both c.in_ok-reg.ensures.taken (takes_both c.in_ok-sign.ensures.taken (takes_both c.in_ok-fixed_name.ensures.taken (takes_both c.in_ok-cell.ensures.taken c.in_ok-sign-2.ensures.taken)));
+}
 
 pub returns-in_err-reg-clause-only : goal.returns-in_err-reg-clause-only
 returns-in_err-reg-clause-only c = λ more reg cell rest m.

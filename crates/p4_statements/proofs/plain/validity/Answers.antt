@@ -16,7 +16,7 @@ use Rattle.p4_statements.specs.Reading.{HasFew, SpellsSimple}
 use Rattle.p4_statements.proofs.plain.validity.Goals as goal
 
 pub returns-clause-taken : goal.returns-clause-taken
-returns-clause-taken c = 
+returns-clause-taken c =
     subst (λ s. Takes (SpellsPlain c.args.depth s) (ahead c.args.reader.now) (ahead c.sign-2.new.self)) (sym (seen_stmt-valid c.in_ok-header.header c.in_ok-on.on))
     (takes_both c.in_ok-header.ensures.taken (takes_both c.in_ok-sign.ensures.taken (takes_both c.in_ok-on.ensures.taken (takes_both c.in_ok-no_arguments.ensures.taken c.in_ok-sign-2.ensures.taken))))
 

@@ -17,12 +17,12 @@ use Rattle.std.proofs.Common.{[], ◌∷◌}
 use Rattle.p4_statements.proofs.plain.write.Goals as goal
 
 pub returns-clause-taken : goal.returns-clause-taken
-returns-clause-taken c = 
+returns-clause-taken c =
     subst (λ s. Takes (SpellsPlain c.args.depth s) (ahead c.args.reader.now) (ahead c.sign-2.new.self)) (sym (seen_stmt-write c.in_ok-reg.reg c.in_ok-cell.cell c.in_ok-cell.value))
     (takes_both c.in_ok-reg.ensures.taken (takes_both c.in_ok-sign.ensures.taken (takes_both c.in_ok-fixed_name.ensures.taken (takes_both c.in_ok-cell.ensures.taken c.in_ok-sign-2.ensures.taken))))
 
 pub returns-clause-few : goal.returns-clause-few
-returns-clause-few c = 
+returns-clause-few c =
     let one = seen_expr c.in_ok-cell.cell in
     let other = seen_expr c.in_ok-cell.value in
     subst HasFew (sym (seen_stmt-write c.in_ok-reg.reg c.in_ok-cell.cell c.in_ok-cell.value)) (All-cons HasFewOperators one (other ∷ []) c.in_ok-cell.ensures.few.0 (All-cons HasFewOperators other [] c.in_ok-cell.ensures.few.1 (All-nil HasFewOperators)))

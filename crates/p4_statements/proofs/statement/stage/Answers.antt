@@ -61,7 +61,7 @@ returns-in_err-sign-clause-only c = λ more stage rest m ends.
     or_answers _ _ _ _ _ _ c.from_residual-in_err-sign.result c.from_residual-in_err-sign.ensures.1 (want_or _ _ (wants_one _ _ (alone m4) c.in_err-sign.ensures.refused))
 
 pub returns-clause-taken : goal.returns-clause-taken
-returns-clause-taken c = 
+returns-clause-taken c =
     may (takes_where (omega (arith, c.in_ok-stage.ensures.within)) (takes_both (c.if-not-eat_sign.ensures.taken refl) (takes_both c.in_ok-fixed_name.ensures.taken (takes_bracketed _ _ c.args.depth c.in_ok-_inner._inner (λ _. Num c.in_ok-stage.stage) c.in_ok-_inner.ensures.depth c.in_ok-_inner.ensures.taken (may c.in_ok-stage.ensures.taken) c.in_ok-sign.ensures.taken))))
 
 pub returns-clause-only : goal.returns-clause-only

@@ -56,7 +56,7 @@ returns-in_err-sign-2-clause-only c = λ more index size rest m.
     or_answers _ _ _ _ _ _ c.from_residual-in_err-sign-2.result c.from_residual-in_err-sign-2.ensures.1 (want_or _ _ (wants_one _ _ (alone m5) c.in_err-sign-2.ensures.refused))
 
 pub returns-clause-taken : goal.returns-clause-taken
-returns-clause-taken c = 
+returns-clause-taken c =
     takes_both c.in_ok-reserved.ensures.taken (takes_bracketed _ _ c.args.depth c.in_ok-_inner._inner (λ _. Named c.in_ok-index.index ⨟ Sign (codes "<") ⨟ Named c.in_ok-size.size) c.in_ok-_inner.ensures.depth c.in_ok-_inner.ensures.taken (may (takes_both c.in_ok-index.ensures.taken (takes_both c.in_ok-sign.ensures.taken c.in_ok-size.ensures.taken))) c.in_ok-sign-2.ensures.taken)
 
 pub returns-clause-only : goal.returns-clause-only
