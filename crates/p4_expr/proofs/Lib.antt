@@ -8,3 +8,4 @@ pub mod MoreTrees
 pub mod ExprExact
 pub mod ManyPrefixes
 pub mod Levels
+pub mod OperatorSigns
