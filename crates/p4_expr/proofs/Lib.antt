@@ -9,3 +9,4 @@ pub mod ExprExact
 pub mod ManyPrefixes
 pub mod Levels
 pub mod OperatorSigns
+pub mod PieceSpelling

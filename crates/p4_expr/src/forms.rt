@@ -25,7 +25,7 @@ pub enum Form {
 }
 
 /// The form of the primary expression that may stand next; Other where none does.
-pub fn form(reader: &Reader<'_>) -> Form
+pub fn form_ahead(reader: &Reader<'_>) -> Form
     ensures own { (depth : ℕ) (e : PlainExpr) (rest : List Word) → MayTake (SpellsOwn depth e) (ahead reader.now) rest → EndsBase rest → result ≡ form_of e }
     ensures bracketed { (depth : ℕ) (e : PlainExpr) (rest : List Word) → MayTake (SpellsInBrackets depth e) (ahead reader.now) rest → result ≡ Form.Bracketed }
 {

@@ -7,7 +7,7 @@ ghost use Rattle.elastic_ast.specs.declared.statements.Amount.{Amount};
 ghost use Rattle.spelling.specs.Words.{Word};
 ghost use Rattle.spelling.specs.Grammar.{◌⨟◌, Sign};
 ghost use Rattle.spelling.specs.Reading.{ahead, Takes, MayTake, IsAnswer, IsReading, IsWant};
-ghost use Rattle.p4_expr.specs.Parts.{SpellsTruth, SpellsIsValid, SpellsBitRange, SpellsCast};
+ghost use Rattle.p4_expr.specs.Parts.{SpellsAmount, SpellsTruth, SpellsIsValid, SpellsBitRange, SpellsCast};
 
 use crate::parts::{amount, bits, header, no_arguments};
 use elastic_ast::{Amount, Expr};
@@ -45,11 +45,11 @@ pub fn bit_range(reader: &mut Reader<'_>, depth: u32) -> Result<(u8, u8), Syntax
     ensures only { (more high low : ℕ) (rest : List Word) → MayTake (SpellsBitRange more high low) (ahead reader.old) rest → IsReading (more ≤ depth) (λ read. read) (high, low) rest (ahead reader.new) result }
 {
     let _inner = reader.open(b"[", depth)?;
-    let high = reader.number(255)? as u8;
+    let high = reader.number(255)?;
     reader.sign(b":")?;
-    let low = reader.number(255)? as u8;
+    let low = reader.number(255)?;
     reader.sign(b"]")?;
-    Ok((high, low))
+    Ok((high as u8, low as u8))
 }
 
 /// `hdr.NAME.isValid()`: the name of the header. `depth` is how many brackets may be open from here on.

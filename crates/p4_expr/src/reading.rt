@@ -13,7 +13,7 @@ ghost use Rattle.p4_expr.specs.Standing.{EndsBase, EndsLevel};
 ghost use Rattle.p4_expr.specs.Bases.{SpellsOwn, SpellsInBrackets, SpellsBase, form_of};
 ghost use Rattle.p4_expr.specs.Answers.{IsExpr};
 
-use crate::forms::{Form, form, is_at_cast};
+use crate::forms::{Form, form_ahead, is_at_cast};
 use crate::operators::operator;
 use crate::parts::{lval, number};
 use crate::pieces::{
@@ -170,7 +170,7 @@ fn base(
     ensures count { IfOk result (λ r. left ≡ operators_in (seen_expr r.0) + r.1) }
     ensures only { (more : ℕ) (e : PlainExpr) (rest : List Word) → MayTake (SpellsBase more e) (ahead reader.old) rest → EndsBase rest → IsReading ((more ≤ depth) × (operators_in e ≤ left)) (λ r. seen_expr r.0) e rest (ahead reader.new) result }
 {
-    match form(reader) {
+    match form_ahead(reader) {
         Form::Bracketed => in_brackets(alloc, reader, depth, left),
         Form::Hash => hash_of(alloc, reader, depth, left),
         form => plain(alloc, reader, depth, left, form),
