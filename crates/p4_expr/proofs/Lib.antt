@@ -9,4 +9,5 @@ pub mod ExprExact
 pub mod ManyPrefixes
 pub mod Levels
 pub mod OperatorSigns
+pub mod FormWords
 pub mod PieceSpelling

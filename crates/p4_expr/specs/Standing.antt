@@ -40,6 +40,10 @@ pub record EndsLevel (level : ℕ) (ws : List Word) : Type 0 where
 abbrev pub StandsTest : List Word → Type 0
 StandsTest ws = Begins (IsSign (codes ".")) (drop 3 ws) × Begins (IsNamed (codes "isValid")) (drop 4 ws) × Begins (IsSign (codes "(")) (drop 5 ws)
 
+-- a hash begins here, `hash(`
+abbrev pub StandsHash : List Word → Type 0
+StandsHash ws = Begins (IsNamed (codes "hash")) ws × Begins (IsSign (codes "(")) (drop 1 ws)
+
 -- a cast begins here, `(bit`
 abbrev pub StandsCast : List Word → Type 0
 StandsCast ws = Begins (IsSign (codes "(")) ws × Begins (IsReserved (codes "bit")) (drop 1 ws)

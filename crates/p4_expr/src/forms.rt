@@ -5,7 +5,7 @@ ghost use Rattle.elastic_ast.specs.Tree.{PlainExpr};
 ghost use Rattle.spelling.specs.Words.{Word};
 ghost use Rattle.spelling.specs.Grammar.{Begins};
 ghost use Rattle.spelling.specs.Reading.{ahead, MayTake};
-ghost use Rattle.p4_expr.specs.Standing.{EndsBase, StandsTest, StandsCast};
+ghost use Rattle.p4_expr.specs.Standing.{EndsBase, StandsTest, StandsHash, StandsCast};
 ghost use Rattle.p4_expr.specs.Bases.{SpellsOwn, SpellsInBrackets, form_of};
 
 use p4_lexer::Kind;
@@ -51,11 +51,10 @@ pub fn form_ahead(reader: &Reader<'_>) -> Form
 fn name_form(reader: &Reader<'_>) -> Form
     ensures { (depth : ℕ) (e : PlainExpr) (rest : List Word) → MayTake (SpellsOwn depth e) (ahead reader.now) rest → EndsBase rest → Begins (λ word. word.kind ≡ Kind.Name) (ahead reader.now) → result ≡ form_of e }
 {
-    let behind = reader.later(1);
-    if reader.is_at_name(b"hash") && behind.is_at_sign(b"(") {
+    if is_at_hash(reader) {
         return Form::Hash;
     }
-    if !behind.is_at_sign(b".") {
+    if !reader.later(1).is_at_sign(b".") {
         return Form::Name;
     }
     if reader.is_at_name(b"hdr") {
@@ -81,6 +80,13 @@ fn is_at_test(reader: &Reader<'_>) -> bool
     reader.later(3).is_at_sign(b".")
         && reader.later(4).is_at_name(b"isValid")
         && reader.later(5).is_at_sign(b"(")
+}
+
+/// Whether a hash stands next, `hash(`.
+fn is_at_hash(reader: &Reader<'_>) -> bool
+    ensures { IsTrue result ↔ StandsHash (ahead reader.now) }
+{
+    reader.is_at_name(b"hash") && reader.later(1).is_at_sign(b"(")
 }
 
 /// Whether a cast stands next, `(bit`.
