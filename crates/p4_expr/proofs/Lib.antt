@@ -9,5 +9,7 @@ pub mod ExprExact
 pub mod ManyPrefixes
 pub mod Levels
 pub mod OperatorSigns
+pub mod Counting
+pub mod FormCases
 pub mod FormWords
 pub mod PieceSpelling

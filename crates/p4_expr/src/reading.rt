@@ -232,18 +232,26 @@ fn plain(
     ensures count { IfOk result (λ r. left ≡ operators_in (seen_expr r.0) + r.1) }
     ensures only { (more : ℕ) (e : PlainExpr) (rest : List Word) → MayTake (SpellsOwn more e) (ahead reader.old) rest → EndsIndex rest → form ≡ form_of e → (form ≡ Form.Hash → ⊥) → IsReading ((more ≤ depth) × (operators_in e ≤ left)) (λ r. seen_expr r.0) e rest (ahead reader.new) result }
 {
-    let e = match form {
+    match form {
         Form::Number => {
             let (width, value) = number(reader)?;
-            Expr::Num { width, value }
+            Ok((Expr::Num { width, value }, left))
         }
-        Form::Truth => Expr::Bool(truth(reader)?),
-        Form::Name => Expr::Named(reader.name(alloc)?),
-        Form::Place => Expr::Field(lval(alloc, reader, depth)?),
-        Form::Validity => return test_of(alloc, reader, depth, left),
-        _ => return Err(reader.refusal()),
-    };
-    Ok((e, left))
+        Form::Truth => {
+            let which = truth(reader)?;
+            Ok((Expr::Bool(which), left))
+        }
+        Form::Name => {
+            let name = reader.name(alloc)?;
+            Ok((Expr::Named(name), left))
+        }
+        Form::Place => {
+            let place = lval(alloc, reader, depth)?;
+            Ok((Expr::Field(place), left))
+        }
+        Form::Validity => test_of(alloc, reader, depth, left),
+        _ => Err(reader.refusal()),
+    }
 }
 
 /// The test of a header, which is an operator.
