@@ -122,7 +122,7 @@ by_name R depth (PlainExpr.Hash k of modulus) m b name place test hash = hash (b
 pub name_no_sign : (t : List ℕ) (a : List Word) → Begins (λ word. word.kind ≡ kind.Name) a → Begins (IsSign t) a → ⊥
 name_no_sign t a b s = not_sign t a (λ word h. ap is_sign h) b s
 
-number_sort : (k : Kind) → IsTrue (is_number k) → (is_sign k ≡ false) × (is_reserved k ≡ false)
+pub number_sort : (k : Kind) → IsTrue (is_number k) → (is_sign k ≡ false) × (is_reserved k ≡ false)
 number_sort (kind.Reserved code) h = absurd (false≢true h)
 number_sort (kind.Sign code) h = absurd (false≢true h)
 number_sort kind.Name h = absurd (false≢true h)

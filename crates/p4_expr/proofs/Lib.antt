@@ -9,6 +9,9 @@ pub mod ExprExact
 pub mod ManyPrefixes
 pub mod Levels
 pub mod OperatorSigns
+pub mod SlicesLeft
+pub mod Slices
+pub mod Starts
 pub mod Counting
 pub mod FormCases
 pub mod FormWords

@@ -1,0 +1,1 @@
+use Rattle.p4_expr.proofs.SlicesLeft.{takes_slice}
