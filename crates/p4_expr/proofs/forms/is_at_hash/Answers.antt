@@ -1,1 +1,1 @@
-use Rattle.p4_expr.proofs.SlicesLeft.{takes_slice}
+use Rattle.p4_expr.proofs.LevelParts.{level_starts}
