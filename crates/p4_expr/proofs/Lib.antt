@@ -9,6 +9,8 @@ pub mod ExprExact
 pub mod ManyPrefixes
 pub mod Levels
 pub mod OperatorSigns
+pub mod StepsLeft
+pub mod LevelSteps
 pub mod LevelParts
 pub mod OperatorsAhead
 pub mod SlicesLeft

@@ -1,1 +1,1 @@
-use Rattle.p4_expr.proofs.LevelParts.{level_starts}
+use Rattle.p4_expr.proofs.StepsLeft.{ends_before}
