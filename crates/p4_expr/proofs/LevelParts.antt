@@ -100,7 +100,7 @@ prefix_start Minus ws at h = absurd (omega (arith, at))
 prefix_start Join ws at h = absurd (omega (arith, at))
 prefix_start Times ws at h = absurd (omega (arith, at))
 
-prefixed_starts : (depth : ℕ) (e : PlainExpr) (ws : List Word) → SpellsPrefixed depth e ws → Begins IsStart ws
+pub prefixed_starts : (depth : ℕ) (e : PlainExpr) (ws : List Word) → SpellsPrefixed depth e ws → Begins IsStart ws
 prefixed_starts depth e ws (SpellsPrefixed.primary h) = begins_also ws (λ word p. p.start) (primary_starts depth e ws h)
 prefixed_starts depth e ws (SpellsPrefixed.unary operator front back is o h j) =
     subst (Begins IsStart) (sym j) (begins_front IsStart front back (prefix_start operator front is.level_is o))

@@ -1,1 +1,0 @@
-use Rattle.p4_expr.proofs.StepsLeft.{ends_before}
