@@ -110,4 +110,4 @@ prefixed_starts depth e ws (SpellsPrefixed.cast {width = width} front back c h j
 pub level_starts : {depth level : ℕ} {e : PlainExpr} {ws : List Word} → SpellsLevel depth level e ws → Begins IsStart ws
 level_starts (SpellsLevel.prefixed {depth = depth} {e = e} {ws = ws} h) = prefixed_starts depth e ws h
 level_starts (SpellsLevel.stronger h) = level_starts h
-level_starts (SpellsLevel.binary operator front sign back is h o r j) = subst (Begins IsStart) (sym (j ∙ append_assoc front sign back)) (begins_front IsStart front (sign ++ back) (level_starts h))
+level_starts (SpellsLevel.binary _ front sign back is h o r j) = subst (Begins IsStart) (sym (j ∙ append_assoc front sign back)) (begins_front IsStart front (sign ++ back) (level_starts h))

@@ -9,6 +9,7 @@ pub mod ExprExact
 pub mod ManyPrefixes
 pub mod Levels
 pub mod OperatorSigns
+pub mod PlaceBehind
 pub mod Refusing
 pub mod Prefixes
 pub mod StepsLeft

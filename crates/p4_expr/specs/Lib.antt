@@ -5,4 +5,4 @@ pub mod Examples
 pub mod GoesOn
 pub mod Standing
 pub mod Bases
-pub mod Answers
+pub mod ExprAt

@@ -11,7 +11,7 @@ ghost use Rattle.p4_expr.specs.Expressions.{SpellsExpr, SpellsLevel, SpellsPrefi
 ghost use Rattle.p4_expr.specs.GoesOn.{expression_signs, EndsIndex};
 ghost use Rattle.p4_expr.specs.Standing.{EndsBase, EndsLevel};
 ghost use Rattle.p4_expr.specs.Bases.{SpellsOwn, SpellsInBrackets, SpellsBase, form_of};
-ghost use Rattle.p4_expr.specs.Answers.{IsExpr};
+ghost use Rattle.p4_expr.specs.ExprAt.{IsExpr};
 
 use crate::forms::{Form, form_ahead, is_at_cast};
 use crate::operators::operator;
