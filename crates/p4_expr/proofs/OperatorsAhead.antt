@@ -121,21 +121,21 @@ shift_touches o ws is s = subst (λ p. Stands p ws) is s
 pub same_operator : (operator other : Operator) (ws : List Word) → level_of operator ≤ level_of other → Stands operator ws → StandsAlone other ws → operator ≡ other
 same_operator operator other ws le s a =
     elim (which_shift operator) [
-      inl p ↦
-        (let touch = shift_touches operator ws p s in
-        elim (which_shift other) [
-          inl q ↦ p ∙ sym q
-        | inr q ↦ absurd (a.alone (angle_is_greater other ws q a.stands (touching_first _ _ ws touch)) touch)
-        ])
-    | inr p ↦
-        elim (which_shift other) [
-          inl q ↦
-            (let touch = shift_touches other ws q a.stands in
-            let is = ap level_of (angle_is_greater operator ws p s (touching_first _ _ ws touch)) in
-            let at = ap level_of q in
-            absurd (omega (arith, le, is, at)))
-        | inr q ↦ plain_same operator other ws p q s a.stands
-        ]
+      | inl p ↦
+          (let touch = shift_touches operator ws p s in
+          elim (which_shift other) [
+            | inl q ↦ p ∙ sym q
+            | inr q ↦ absurd (a.alone (angle_is_greater other ws q a.stands (touching_first _ _ ws touch)) touch)
+          ])
+      | inr p ↦
+          elim (which_shift other) [
+            | inl q ↦
+                (let touch = shift_touches other ws q a.stands in
+                let is = ap level_of (angle_is_greater operator ws p s (touching_first _ _ ws touch)) in
+                let at = ap level_of q in
+                absurd (omega (arith, le, is, at)))
+            | inr q ↦ plain_same operator other ws p q s a.stands
+          ]
     ]
 
 -- the code of an operator, which is its own

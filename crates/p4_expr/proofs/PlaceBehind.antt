@@ -16,7 +16,7 @@ pub place_behind : (text : List ℕ) (tokens : List Token) (at : ℕ) (front bac
 place_behind text tokens at front back is =
     let all = words text tokens in
     let whole : all ≡ (take at all ++ front) ++ back =
-        sym (take-append-drop at all) ∙ ap (λ l. take at all ++ l) (drop-map (word_of text) at tokens ∙ is) ∙ sym (append_assoc (take at all) front back)
+    sym (take-append-drop at all) ∙ ap (λ l. take at all ++ l) (drop-map (word_of text) at tokens ∙ is) ∙ sym (append_assoc (take at all) front back)
     in
     let long : length all ≡ length tokens = length-map tokens (word_of text) in
     sym (drop-map (word_of text) (length tokens - length back) tokens) ∙ ap (λ n. drop (n - length back) all) (sym long) ∙ last_words all (take at all ++ front) back whole

@@ -68,12 +68,12 @@ prefix_passed P depth code e {a = a} {b = b} {c = c} m p next =
     prefixed_cases P depth e m
     (λ n. absurd (prefix_no_primary p.operator a p.is.level_is stands (begins_taken IsPrimaryStart (SpellsPrimary depth e) (primary_starts depth e) n)))
     (λ op of operator is n.
-        let s = split n in
-        let alone = stands_alone operator IsStart s.first (begins_taken IsStart (SpellsPrefixed depth of) (prefixed_starts depth of) s.second) (λ word start. start.no_angle) in
-        let le : level_of p.operator ≤ level_of operator = (let i = p.is.level_is in let j = is.level_is in omega (arith, i, j)) in
-        let same = same_operator p.operator operator a le stands alone in
-        let coded = same_code 0 code op p.operator operator same p.is is in
-        subst (λ o. P (PlainExpr.Unary o of)) coded (next of (after_operator operator (SpellsPrefixed depth of) a b c (subst (λ o. Takes (SpellsOperator o) a b) same p.takes) n)))
+    let s = split n in
+    let alone = stands_alone operator IsStart s.first (begins_taken IsStart (SpellsPrefixed depth of) (prefixed_starts depth of) s.second) (λ word start. start.no_angle) in
+    let le : level_of p.operator ≤ level_of operator = (let i = p.is.level_is in let j = is.level_is in omega (arith, i, j)) in
+    let same = same_operator p.operator operator a le stands alone in
+    let coded = same_code 0 code op p.operator operator same p.is is in
+    subst (λ o. P (PlainExpr.Unary o of)) coded (next of (after_operator operator (SpellsPrefixed depth of) a b c (subst (λ o. Takes (SpellsOperator o) a b) same p.takes) n)))
     (λ width of n. absurd (operator_no_cast p.operator a stands (cast_begins depth width n)))
 
 cast_stands : (depth width : ℕ) {Q : Grammar} {a c : List Word} → MayTake (SpellsCast depth width ⨟ Q) a c → StandsCast a

@@ -50,33 +50,33 @@ primary_parts {depth = depth} {e = e} {ws = ws} (SpellsPrimary.is_valid h) = bas
 primary_parts {e = e} {ws = ws} (SpellsPrimary.bracketed {depth = depth} opening inside closing o h c j) =
     base_alone (suc depth) e ws
     (inr record {
-        front = opening;
-        back = inside ++ closing;
-        joined = j ∙ append_assoc opening inside closing;
-        first = o;
-        second = record { front = inside; back = closing; joined = refl; first = h; second = c };
-      })
+      front = opening;
+      back = inside ++ closing;
+      joined = j ∙ append_assoc opening inside closing;
+      first = o;
+      second = record { front = inside; back = closing; joined = refl; first = h; second = c };
+    })
 primary_parts {e = e} {ws = ws} (SpellsPrimary.hash {depth = depth} name opening front inside back closing n o f h b c j) =
     base_alone (suc depth) e ws
     (inl record {
-        front = name;
-        back = opening ++ ((front ++ inside ++ back) ++ closing);
-        joined = j ∙ append_assoc (name ++ opening) (front ++ inside ++ back) closing ∙ append_assoc name opening ((front ++ inside ++ back) ++ closing);
-        first = n;
+      front = name;
+      back = opening ++ ((front ++ inside ++ back) ++ closing);
+      joined = j ∙ append_assoc (name ++ opening) (front ++ inside ++ back) closing ∙ append_assoc name opening ((front ++ inside ++ back) ++ closing);
+      first = n;
+      second = record {
+        front = opening;
+        back = (front ++ inside ++ back) ++ closing;
+        joined = refl;
+        first = o;
         second = record {
-          front = opening;
-          back = (front ++ inside ++ back) ++ closing;
+          front = front ++ inside ++ back;
+          back = closing;
           joined = refl;
-          first = o;
-          second = record {
-            front = front ++ inside ++ back;
-            back = closing;
-            joined = refl;
-            first = record { front = front; back = inside ++ back; joined = append_assoc front inside back; first = f; second = record { front = inside; back = back; joined = refl; first = h; second = b } };
-            second = c;
-          };
+          first = record { front = front; back = inside ++ back; joined = append_assoc front inside back; first = f; second = record { front = inside; back = back; joined = refl; first = h; second = b } };
+          second = c;
         };
-      })
+      };
+    })
 primary_parts {ws = ws} (SpellsPrimary.slice {depth = depth} {high = high} {low = low} front back first second j) =
     let p = primary_parts first in
     let s = p.spelled in

@@ -87,15 +87,15 @@ range_number (suc depth) high low {a = a} m =
 -- behind a base only a slice may go on
 pub ends_base : (depth : ℕ) (slices : List Bits) {a c : List Word} → MayTake (Each (SpellsSlice depth) slices) a c → EndsLevel 0 c → EndsBase a
 ends_base depth [] m ends = let same = empty_same m in record {
-    index = λ b. absurd (ends.slice (subst (Begins (IsSign (codes "["))) same b));
-    place = λ b. ends.place (subst (Begins (IsSign (codes "."))) same b);
-    call = λ b. ends.call (subst (Begins (IsSign (codes "("))) same b);
-  }
+  index = λ b. absurd (ends.slice (subst (Begins (IsSign (codes "["))) same b));
+  place = λ b. ends.place (subst (Begins (IsSign (codes "."))) same b);
+  call = λ b. ends.call (subst (Begins (IsSign (codes "("))) same b);
+}
 ends_base depth (bits ∷ later) {a = a} m ends = let at = slice_begins depth bits m in record {
-    index = λ b. range_number depth bits.0 bits.1 m;
-    place = λ b. two_signs (codes "[") (codes ".") a refl at b;
-    call = λ b. two_signs (codes "[") (codes "(") a refl at b;
-  }
+  index = λ b. range_number depth bits.0 bits.1 m;
+  place = λ b. two_signs (codes "[") (codes ".") a refl at b;
+  call = λ b. two_signs (codes "[") (codes "(") a refl at b;
+}
 
 -- a base is a primary expression
 own_primary : (depth : ℕ) (e : PlainExpr) (ws : List Word) → SpellsOwn depth e ws → SpellsPrimary depth e ws

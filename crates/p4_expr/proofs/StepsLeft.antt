@@ -89,11 +89,11 @@ no_opening NoOperator = refl
 -- an operand of a level ends before an operator of the next weaker level, and where the whole ends
 pub ends_below : (depth level below : ℕ) (steps : List Step) {a c : List Word} → level ≡ suc below → MayTake (Each (SpellsStep depth level below) steps) a c → EndsLevel level c → EndsLevel below a
 ends_below depth level below [] is m ends = let same = empty_same m in record {
-    operators = λ operator above within s. ends.operators operator above (omega (arith, within, is)) (subst (Stands operator) same s);
-    slice = λ b. ends.slice (subst (Begins (IsSign (codes "["))) same b);
-    place = λ b. ends.place (subst (Begins (IsSign (codes "."))) same b);
-    call = λ b. ends.call (subst (Begins (IsSign (codes "("))) same b);
-  }
+  operators = λ operator above within s. ends.operators operator above (omega (arith, within, is)) (subst (Stands operator) same s);
+  slice = λ b. ends.slice (subst (Begins (IsSign (codes "["))) same b);
+  place = λ b. ends.place (subst (Begins (IsSign (codes "."))) same b);
+  call = λ b. ends.call (subst (Begins (IsSign (codes "("))) same b);
+}
 ends_below depth level below (step ∷ later) {a = a} is m ends =
     let f = step_ahead depth level below step m in
     let alone = step_alone depth level below step f in

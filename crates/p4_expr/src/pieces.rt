@@ -53,11 +53,7 @@ pub fn bit_range(reader: &mut Reader<'_>, depth: u32) -> Result<(u8, u8), Syntax
 }
 
 /// `hdr.NAME.isValid()`: the name of the header. `depth` is how many brackets may be open from here on.
-pub fn validity(
-    alloc: Global,
-    reader: &mut Reader<'_>,
-    depth: u32,
-) -> Result<Name, SyntaxError>
+pub fn validity(alloc: Global, reader: &mut Reader<'_>, depth: u32) -> Result<Name, SyntaxError>
     ensures taken { IfOk result (λ name. Takes (SpellsIsValid depth name) (ahead reader.old) (ahead reader.new)) }
     ensures only { (more : ℕ) (name : List ℕ) (rest : List Word) → MayTake (SpellsIsValid more name) (ahead reader.old) rest → IsReading (more ≤ depth) (λ read. read) name rest (ahead reader.new) result }
 {

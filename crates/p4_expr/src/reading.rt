@@ -57,11 +57,7 @@ pub fn expr(
 }
 
 /// Reads the longest expression that stands next. `depth` is how many brackets may be open from here on.
-pub fn read_expr(
-    alloc: Global,
-    reader: &mut Reader<'_>,
-    depth: u32,
-) -> Result<Expr, SyntaxError>
+pub fn read_expr(alloc: Global, reader: &mut Reader<'_>, depth: u32) -> Result<Expr, SyntaxError>
     ensures taken { IfOk result (λ e. Takes (SpellsExpr depth (seen_expr e)) (ahead reader.old) (ahead reader.new)) }
     ensures few { IfOk result (λ e. HasFewOperators (seen_expr e)) }
     ensures only { (more : ℕ) (e : PlainExpr) (rest : List Word) → MayTake (SpellsExpr more e) (ahead reader.old) rest → Ends expression_signs rest → IsReading ((more ≤ depth) × HasFewOperators e) seen_expr e rest (ahead reader.new) result }

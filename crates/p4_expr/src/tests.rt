@@ -66,7 +66,11 @@ fn put(to: &mut Vec<u8>, letter: u8, number: u16) -> Result<(), AllocError> {
 }
 
 fn digit(value: u16) -> u8 {
-    if value < 10 { b'0' + value as u8 } else { b'a' + (value % 16 - 10) as u8 }
+    if value < 10 {
+        b'0' + value as u8
+    } else {
+        b'a' + (value % 16 - 10) as u8
+    }
 }
 
 fn written(alloc: Global, text: &[u8]) -> Result<Vec<u8>, Fail> {
@@ -130,8 +134,18 @@ fn too_many_operators_and_brackets_are_refused(rt: HostRuntime) -> Result<(), Fa
     let few = repeated(rt.alloc(), b'~', 64)?;
     assert!(rt; matches!(read(rt.alloc(), few.as_slice(), 0), Ok((_, 65))));
     let many = repeated(rt.alloc(), b'~', 65)?;
-    assert!(rt; matches!(read(rt.alloc(), many.as_slice(), 0), Err(SyntaxError::TooDeep { token: 64 })));
+    assert!(rt;
+        matches!(
+            read(rt.alloc(), many.as_slice(), 0),
+            Err(SyntaxError::TooDeep { token: 64 })
+        )
+    );
     let open = repeated(rt.alloc(), b'(', 1_000_000)?;
-    assert!(rt; matches!(read(rt.alloc(), open.as_slice(), 80), Err(SyntaxError::TooDeep { token: 80 })));
+    assert!(rt;
+        matches!(
+            read(rt.alloc(), open.as_slice(), 80),
+            Err(SyntaxError::TooDeep { token: 80 })
+        )
+    );
     Ok(())
 }

@@ -25,27 +25,27 @@ use Rattle.p4_expr.proofs.reading.+expressions.Goals as goal
 pub base-returns-in-Bracketed-clause-only : goal.base-returns-in-Bracketed-clause-only
 base-returns-in-Bracketed-clause-only t c = λ more e rest m ends.
     elim (which m) [
-      inl own ↦ absurd (none_bracketed e (sym c.in-Bracketed.is ∙ c.form_ahead.ensures.own more e rest own ends))
-    | inr b ↦ c.in_brackets.ensures.only more e rest b
+      | inl own ↦ absurd (none_bracketed e (sym c.in-Bracketed.is ∙ c.form_ahead.ensures.own more e rest own ends))
+      | inr b ↦ c.in_brackets.ensures.only more e rest b
     ]
 
 pub base-returns-in-Hash-clause-only : goal.base-returns-in-Hash-clause-only
 base-returns-in-Hash-clause-only t c = λ more e rest m ends.
     elim (which m) [
-      inl own ↦ c.hash_of.ensures.only more e rest own (sym c.in-Hash.is ∙ c.form_ahead.ensures.own more e rest own ends)
-    | inr b ↦ absurd (hash_not_bracketed (sym c.in-Hash.is ∙ c.form_ahead.ensures.bracketed more e rest b))
+      | inl own ↦ c.hash_of.ensures.only more e rest own (sym c.in-Hash.is ∙ c.form_ahead.ensures.own more e rest own ends)
+      | inr b ↦ absurd (hash_not_bracketed (sym c.in-Hash.is ∙ c.form_ahead.ensures.bracketed more e rest b))
     ]
 
 pub base-returns-in_default : goal.base-returns-in_default
 base-returns-in_default t c = record {
-    taken = IfOk-weaker c.plain.result _ _ (λ r t. takes_as (λ ws h. inl h) t) c.plain.ensures.taken;
-    count = c.plain.ensures.count;
-    only = λ more e rest m ends.
-        elim (which m) [
-          inl own ↦ c.plain.ensures.only more e rest own ends.index (c.form_ahead.ensures.own more e rest own ends) c.in_default.not-Hash
+  taken = IfOk-weaker c.plain.result _ _ (λ r t. takes_as (λ ws h. inl h) t) c.plain.ensures.taken;
+  count = c.plain.ensures.count;
+  only = λ more e rest m ends.
+      elim (which m) [
+        | inl own ↦ c.plain.ensures.only more e rest own ends.index (c.form_ahead.ensures.own more e rest own ends) c.in_default.not-Hash
         | inr b ↦ absurd (c.in_default.not-Bracketed (c.form_ahead.ensures.bracketed more e rest b))
-        ];
-  }
+      ];
+}
 
 pub hash_of-returns-then-left-eq0-clause-only : goal.hash_of-returns-then-left-eq0-clause-only
 hash_of-returns-then-left-eq0-clause-only t c = λ more e rest m is.
@@ -112,13 +112,13 @@ hash_of-returns-in_err-sign-clause-only t c = λ more e rest m is.
     wants_one _ _ (alone r5.1) c.in_err-sign.ensures.refused)))
 
 pub hash_of-returns-clause-taken : goal.hash_of-returns-clause-taken
-hash_of-returns-clause-taken t c = 
+hash_of-returns-clause-taken t c =
     subst (λ e. Takes (SpellsOwn c.args.depth e) (ahead c.args.reader.now) (ahead c.sign.new.self)) (sym c.in_ok-e.ensures.made)
     (takes_both c.in_ok-fixed_name.ensures.taken
-      (takes_bracketed (codes "(") (codes ")") c.args.depth c.in_ok-inner.inner (λ inner. (SpellsAmount c.in_ok-number.number ⨟ Sign (codes ",")) ⨟ SpellsExpr inner (seen_expr c.in_ok-of.of) ⨟ Sign (codes ",") ⨟ SpellsAmount c.in_ok-modulus.modulus) c.in_ok-inner.ensures.depth c.in_ok-inner.ensures.taken (may (takes_both c.in_ok-number.ensures.taken (takes_both c.in_ok-of.ensures.taken c.in_ok-modulus.ensures.taken))) c.in_ok-sign.ensures.taken))
+    (takes_bracketed (codes "(") (codes ")") c.args.depth c.in_ok-inner.inner (λ inner. (SpellsAmount c.in_ok-number.number ⨟ Sign (codes ",")) ⨟ SpellsExpr inner (seen_expr c.in_ok-of.of) ⨟ Sign (codes ",") ⨟ SpellsAmount c.in_ok-modulus.modulus) c.in_ok-inner.ensures.depth c.in_ok-inner.ensures.taken (may (takes_both c.in_ok-number.ensures.taken (takes_both c.in_ok-of.ensures.taken c.in_ok-modulus.ensures.taken))) c.in_ok-sign.ensures.taken))
 
 pub hash_of-returns-clause-count : goal.hash_of-returns-clause-count
-hash_of-returns-clause-count t c = 
+hash_of-returns-clause-count t c =
     counted (PlainExpr.Hash c.in_ok-number.number (seen_expr c.in_ok-of.of) c.in_ok-modulus.modulus) c.args.left (operators_in (seen_expr c.in_ok-of.of) + 1) c.in_ok-of.fewer c.in_ok-e.ensures.made (hash_count c.in_ok-number.number (seen_expr c.in_ok-of.of) c.in_ok-modulus.modulus) (omega (arith, c.in_ok-of.ensures.count, c.if-left-eq0.false))
 
 pub hash_of-returns-clause-only : goal.hash_of-returns-clause-only
@@ -130,11 +130,13 @@ hash_of-returns-clause-only t c = λ more e rest m is.
     let r3 = after n2 (λ b f s. c.in_ok-number.ensures.only number b f) in
     let n3 = regroup r3.1 in
     let r4 = after n3 (λ b f s. c.in_ok-of.ensures.only i.within of b f (ends_before (codes ",") b refl (begins_first (regroup s)))) in
-    let r5 = after r4.1 (λ b f s. c.in_ok-modulus.ensures.only modulus b f) in
-    (c.in_ok-e.ensures.made
-      ∙ ap (λ k. PlainExpr.Hash k (seen_expr c.in_ok-of.of) c.in_ok-modulus.modulus) r3.0
-      ∙ ap (λ x. PlainExpr.Hash number x c.in_ok-modulus.modulus) r4.0
-      ∙ ap (λ k. PlainExpr.Hash number of k) r5.0, same_end r5.1 c.in_ok-sign.ensures.taken))
+    let r5 = after r4.1 (λ b f s. c.in_ok-modulus.ensures.only modulus b f) in (
+      c.in_ok-e.ensures.made
+          ∙ ap (λ k. PlainExpr.Hash k (seen_expr c.in_ok-of.of) c.in_ok-modulus.modulus) r3.0
+          ∙ ap (λ x. PlainExpr.Hash number x c.in_ok-modulus.modulus) r4.0
+          ∙ ap (λ k. PlainExpr.Hash number of k) r5.0,
+      same_end r5.1 c.in_ok-sign.ensures.taken,
+    ))
 
 pub in_brackets-returns-in_err-inner-clause-only : goal.in_brackets-returns-in_err-inner-clause-only
 in_brackets-returns-in_err-inner-clause-only t c = λ more e rest m.
@@ -157,7 +159,7 @@ in_brackets-returns-in_err-sign-clause-only t c = λ more e rest m.
     (want_or _ _ (wants_one _ _ (alone r.1) c.in_err-sign.ensures.refused))
 
 pub in_brackets-returns-clause-taken : goal.in_brackets-returns-clause-taken
-in_brackets-returns-clause-taken t c = 
+in_brackets-returns-clause-taken t c =
     takes_bracketed (codes "(") (codes ")") c.args.depth c.in_ok-inner.inner (λ inner. SpellsExpr inner (seen_expr c.in_ok-e.e)) c.in_ok-inner.ensures.depth c.in_ok-inner.ensures.taken (may c.in_ok-e.ensures.taken) c.in_ok-sign.ensures.taken
 
 pub in_brackets-returns-clause-only : goal.in_brackets-returns-clause-only
@@ -182,7 +184,7 @@ level-returns-in_err-e-clause-only t c = λ more e rest m ends.
     (or_as ((more ≤ c.args.depth) × (operators_in e ≤ c.args.left)) ((more ≤ c.args.depth) × (operators_in l.first ≤ c.args.left)) c.in_err-e.field-0.0 (λ few. (few.0, built_within l.first e l.steps c.args.left l.whole few.1)) (wants l.ahead (λ b f s. c.in_err-e.ensures.only more l.first b f (ends_below more c.args.level (c.args.level - 1) l.steps is s ends))))
 
 pub level-operators-init : goal.level-operators-init
-level-operators-init t c = 
+level-operators-init t c =
     let is : c.args.level ≡ suc (c.args.level - 1) = omega (arith, c.if-level-eq0.false) in
     record {
       taken = takes_stronger c.args.depth c.args.level (c.args.level - 1) (seen_expr c.in_ok-e.e) is c.in_ok-e.ensures.taken;
@@ -213,7 +215,7 @@ level-returns-in_err-right-clause-only t c = λ more e rest m ends.
     (or_as ((more ≤ c.args.depth) × (operators_in e ≤ c.args.left)) ((more ≤ c.args.depth) × (operators_in n.right ≤ c.operators.left - 1)) c.in_err-right.field-0.0 (λ few. let used = built_within (PlainExpr.Binary c.in-Some.op (seen_expr c.operators.e) n.right) e n.later c.args.left n.whole few.1 in let k = binary_count c.in-Some.op (seen_expr c.operators.e) n.right in (few.0, omega (arith, used, k, c.operators.invariant.count))) (wants n.ahead (λ b f s. c.in_err-right.ensures.only more n.right b f (ends_below more c.args.level (c.args.level - 1) n.later is s ends))))
 
 pub level-operators-preserved : goal.level-operators-preserved
-level-operators-preserved t c = 
+level-operators-preserved t c =
     let is : c.args.level ≡ suc (c.args.level - 1) = omega (arith, c.if-level-eq0.false) in
     record {
       taken =
@@ -243,11 +245,11 @@ prefixed-returns-in_err-of-clause-only t c = λ more e rest m ends.
     or_as ((more ≤ c.args.depth) × (operators_in (PlainExpr.Unary c.in-Some.op of) ≤ c.args.left)) ((more ≤ c.args.depth) × (operators_in of ≤ c.args.left - 1)) c.in_err-of.field-0.0 (λ few. let used = few.1 in let k = unary_count c.in-Some.op of in (few.0, omega (arith, used, k))) (c.in_err-of.ensures.only more of rest n ends)))
 
 pub prefixed-returns-in-Some-clause-taken : goal.prefixed-returns-in-Some-clause-taken
-prefixed-returns-in-Some-clause-taken t c = 
+prefixed-returns-in-Some-clause-taken t c =
     subst (λ e. Takes (SpellsPrefixed c.args.depth e) (ahead c.args.reader.now) (ahead c.prefixed.new.reader)) (sym c.in_ok-e.ensures.made) (takes_unary c.args.depth c.in-Some.op (seen_expr c.in_ok-of.of) c.in-Some.ensures.taken c.in_ok-of.ensures.taken)
 
 pub prefixed-returns-in-Some-clause-count : goal.prefixed-returns-in-Some-clause-count
-prefixed-returns-in-Some-clause-count t c = 
+prefixed-returns-in-Some-clause-count t c =
     counted (PlainExpr.Unary c.in-Some.op (seen_expr c.in_ok-of.of)) c.args.left (operators_in (seen_expr c.in_ok-of.of) + 1) c.in_ok-of.fewer c.in_ok-e.ensures.made (unary_count c.in-Some.op (seen_expr c.in_ok-of.of)) (omega (arith, c.in_ok-of.ensures.count, c.if-left-eq0.false))
 
 pub prefixed-returns-in-Some-clause-only : goal.prefixed-returns-in-Some-clause-only
@@ -257,7 +259,7 @@ prefixed-returns-in-Some-clause-only t c = λ more e rest m ends.
     (c.in_ok-e.ensures.made ∙ ap (PlainExpr.Unary c.in-Some.op) r.0, r.1))
 
 pub prefixed-returns-then-not-is_at_cast-clause-taken : goal.prefixed-returns-then-not-is_at_cast-clause-taken
-prefixed-returns-then-not-is_at_cast-clause-taken t c = 
+prefixed-returns-then-not-is_at_cast-clause-taken t c =
     let same : ahead c.operator.new.reader ≡ ahead c.args.reader.now = ap ahead (c.in_default.ensures.left refl) in
     IfOk-weaker c.primary.result _ _ (λ r taken. takes_as (λ ws h. SpellsPrefixed.primary h) (subst (λ a. Takes (SpellsPrimary c.args.depth (seen_expr r.0)) a (ahead c.primary.new.reader)) same taken)) c.primary.ensures.taken
 
@@ -297,14 +299,14 @@ prefixed-returns-in_err-of-2-clause-only t c = λ more e rest m ends.
     or_as ((more ≤ c.args.depth) × (operators_in (PlainExpr.Cast width of) ≤ c.args.left)) ((more ≤ c.args.depth) × (operators_in of ≤ c.args.left - 1)) c.in_err-of-2.field-0.0 (λ few. let used = few.1 in let k = cast_count width of in (few.0, omega (arith, used, k))) (c.in_err-of-2.ensures.only more of rest r.1 ends)))
 
 pub prefixed-returns-clause-taken : goal.prefixed-returns-clause-taken
-prefixed-returns-clause-taken t c = 
+prefixed-returns-clause-taken t c =
     let same : ahead c.operator.new.reader ≡ ahead c.args.reader.now = ap ahead (c.in_default.ensures.left refl) in
     subst (λ e. Takes (SpellsPrefixed c.args.depth e) (ahead c.args.reader.now) (ahead c.prefixed-2.new.reader)) (sym c.in_ok-e-2.ensures.made)
     (subst (λ a. Takes (SpellsPrefixed c.args.depth (PlainExpr.Cast c.in_ok-width.width (seen_expr c.in_ok-of-2.of))) a (ahead c.prefixed-2.new.reader)) same
-      (takes_cast c.args.depth c.in_ok-width.width (seen_expr c.in_ok-of-2.of) c.in_ok-width.ensures.taken c.in_ok-of-2.ensures.taken))
+    (takes_cast c.args.depth c.in_ok-width.width (seen_expr c.in_ok-of-2.of) c.in_ok-width.ensures.taken c.in_ok-of-2.ensures.taken))
 
 pub prefixed-returns-clause-count : goal.prefixed-returns-clause-count
-prefixed-returns-clause-count t c = 
+prefixed-returns-clause-count t c =
     counted (PlainExpr.Cast c.in_ok-width.width (seen_expr c.in_ok-of-2.of)) c.args.left (operators_in (seen_expr c.in_ok-of-2.of) + 1) c.in_ok-of-2.fewer c.in_ok-e-2.ensures.made (cast_count c.in_ok-width.width (seen_expr c.in_ok-of-2.of)) (omega (arith, c.in_ok-of-2.ensures.count, c.if-left-eq0-2.false))
 
 pub prefixed-returns-clause-only : goal.prefixed-returns-clause-only
@@ -325,13 +327,13 @@ primary-returns-in_err-e-clause-only t c = λ more e rest m ends.
 
 pub primary-slices-init : goal.primary-slices-init
 primary-slices-init t c = record {
-    taken = takes_as (base_primary c.args.depth (seen_expr c.in_ok-e.e)) c.in_ok-e.ensures.taken;
-    count = c.in_ok-e.ensures.count;
-    only = λ more e rest m ends.
-        let p = primary_ahead more e m in
-        let r = after p.ahead (λ b f s. c.in_ok-e.ensures.only more p.base b f (ends_base more p.slices s ends)) in
-        record { slices = p.slices; whole = p.whole ∙ ap (λ x. sliced x p.slices) (sym r.0); ahead = r.1 };
-  }
+  taken = takes_as (base_primary c.args.depth (seen_expr c.in_ok-e.e)) c.in_ok-e.ensures.taken;
+  count = c.in_ok-e.ensures.count;
+  only = λ more e rest m ends.
+      let p = primary_ahead more e m in
+      let r = after p.ahead (λ b f s. c.in_ok-e.ensures.only more p.base b f (ends_base more p.slices s ends)) in
+      record { slices = p.slices; whole = p.whole ∙ ap (λ x. sliced x p.slices) (sym r.0); ahead = r.1 };
+}
 
 pub primary-returns-then-left-eq0-clause-only : goal.primary-returns-then-left-eq0-clause-only
 primary-returns-then-left-eq0-clause-only t c = λ more e rest m ends.
@@ -346,19 +348,19 @@ primary-returns-in_err-high-clause-only t c = λ more e rest m ends.
 
 pub primary-slices-preserved : goal.primary-slices-preserved
 primary-slices-preserved t c = record {
-    taken =
-        subst (λ e. Takes (SpellsPrimary c.args.depth e) (ahead c.args.reader.now) (ahead c.bit_range.new.reader)) (sym c.in_ok-e-2.ensures.made)
-        (takes_slice c.args.depth c.in_ok-high.high c.in_ok-high.low (seen_expr c.slices.e) c.slices.invariant.taken c.in_ok-high.ensures.taken);
-    count = counted (PlainExpr.Slice (seen_expr c.slices.e) c.in_ok-high.high c.in_ok-high.low) c.args.left (operators_in (seen_expr c.slices.e) + 1) (c.slices.left - 1) c.in_ok-e-2.ensures.made (slice_count (seen_expr c.slices.e) c.in_ok-high.high c.in_ok-high.low) (omega (arith, c.slices.invariant.count, c.if-left-eq0.false));
-    only = λ more e rest m ends.
-        let n = next_slice more (seen_expr c.slices.e) e (c.slices.invariant.only more e rest m ends) (c.slices-test.ensures.0 refl) ends.slice in
-        let r = after n.ahead (λ b f s. c.in_ok-high.ensures.only more n.high n.low b f) in
-        record {
-          slices = n.later;
-          whole = n.whole ∙ ap (λ bits. sliced (PlainExpr.Slice (seen_expr c.slices.e) bits.0 bits.1) n.later) (sym r.0) ∙ ap (λ x. sliced x n.later) (sym c.in_ok-e-2.ensures.made);
-          ahead = r.1;
-        };
-  }
+  taken =
+      subst (λ e. Takes (SpellsPrimary c.args.depth e) (ahead c.args.reader.now) (ahead c.bit_range.new.reader)) (sym c.in_ok-e-2.ensures.made)
+      (takes_slice c.args.depth c.in_ok-high.high c.in_ok-high.low (seen_expr c.slices.e) c.slices.invariant.taken c.in_ok-high.ensures.taken);
+  count = counted (PlainExpr.Slice (seen_expr c.slices.e) c.in_ok-high.high c.in_ok-high.low) c.args.left (operators_in (seen_expr c.slices.e) + 1) (c.slices.left - 1) c.in_ok-e-2.ensures.made (slice_count (seen_expr c.slices.e) c.in_ok-high.high c.in_ok-high.low) (omega (arith, c.slices.invariant.count, c.if-left-eq0.false));
+  only = λ more e rest m ends.
+      let n = next_slice more (seen_expr c.slices.e) e (c.slices.invariant.only more e rest m ends) (c.slices-test.ensures.0 refl) ends.slice in
+      let r = after n.ahead (λ b f s. c.in_ok-high.ensures.only more n.high n.low b f) in
+      record {
+        slices = n.later;
+        whole = n.whole ∙ ap (λ bits. sliced (PlainExpr.Slice (seen_expr c.slices.e) bits.0 bits.1) n.later) (sym r.0) ∙ ap (λ x. sliced x n.later) (sym c.in_ok-e-2.ensures.made);
+        ahead = r.1;
+      };
+}
 
 pub primary-returns-clause-only : goal.primary-returns-clause-only
 primary-returns-clause-only t c = λ more e rest m ends. no_slice more (seen_expr c.slices.e) e (c.slices.invariant.only more e rest m ends) (not_there c.slices-test.ensures.1)

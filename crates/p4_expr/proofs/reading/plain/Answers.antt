@@ -52,8 +52,8 @@ pub returns-in_ok-width-in-Number-clause-only : goal.returns-in_ok-width-in-Numb
 returns-in_ok-width-in-Number-clause-only c = λ more e rest m ends is no.
     number_there (λ e. (seen_expr (expr.Num c.in_ok-width-in-Number.width c.in_ok-width-in-Number.value) ≡ e) × (ahead c.number.new.reader ≡ rest)) more e (sym c.in-Number.is ∙ is) m
     (λ width value n.
-        let r = c.in_ok-width-in-Number.ensures.only width value rest n in
-        (seen_expr-num c.in_ok-width-in-Number.width c.in_ok-width-in-Number.value ∙ ap (λ p. PlainExpr.Num p.0 p.1) r.0, r.1))
+    let r = c.in_ok-width-in-Number.ensures.only width value rest n in
+    (seen_expr-num c.in_ok-width-in-Number.width c.in_ok-width-in-Number.value ∙ ap (λ p. PlainExpr.Num p.0 p.1) r.0, r.1))
 
 pub returns-in_err-which-in-Truth-clause-only : goal.returns-in_err-which-in-Truth-clause-only
 returns-in_err-which-in-Truth-clause-only c = λ more e rest m ends is no.
@@ -63,8 +63,8 @@ pub returns-in_ok-which-in-Truth-clause-only : goal.returns-in_ok-which-in-Truth
 returns-in_ok-which-in-Truth-clause-only c = λ more e rest m ends is no.
     truth_there (λ e. (seen_expr (expr.Bool c.in_ok-which-in-Truth.which) ≡ e) × (ahead c.truth.new.reader ≡ rest)) more e (sym c.in-Truth.is ∙ is) m
     (λ which n.
-        let r = c.in_ok-which-in-Truth.ensures.only which rest n in
-        (seen_expr-bool c.in_ok-which-in-Truth.which ∙ ap PlainExpr.Truth r.0, r.1))
+    let r = c.in_ok-which-in-Truth.ensures.only which rest n in
+    (seen_expr-bool c.in_ok-which-in-Truth.which ∙ ap PlainExpr.Truth r.0, r.1))
 
 pub returns-in_err-name-in-Name-clause-only : goal.returns-in_err-name-in-Name-clause-only
 returns-in_err-name-in-Name-clause-only c = λ more e rest m ends is no.
@@ -83,8 +83,8 @@ pub returns-in_ok-place-in-Place-clause-only : goal.returns-in_ok-place-in-Place
 returns-in_ok-place-in-Place-clause-only c = λ more e rest m ends is no.
     place_there (λ e. (seen_expr (expr.Field c.in_ok-place-in-Place.place) ≡ e) × (ahead c.lval.new.reader ≡ rest)) more e (sym c.in-Place.is ∙ is) m
     (λ lval n.
-        let r = c.in_ok-place-in-Place.ensures.only more lval rest n ends in
-        (seen_expr-field c.in_ok-place-in-Place.place ∙ ap PlainExpr.At r.0, r.1))
+    let r = c.in_ok-place-in-Place.ensures.only more lval rest n ends in
+    (seen_expr-field c.in_ok-place-in-Place.place ∙ ap PlainExpr.At r.0, r.1))
 
 pub returns-in-Validity-clause-only : goal.returns-in-Validity-clause-only
 returns-in-Validity-clause-only c = λ more e rest m ends is no.
