@@ -3,9 +3,14 @@
 
 mod depth_laws;
 mod examples;
+mod forms;
 mod level_laws;
+mod operators;
 mod parts;
+mod pieces;
 mod reading;
+#[cfg(test)]
+mod tests;
 
 pub use depth_laws::{law_of_greater_depths, law_of_open_brackets};
 pub use examples::{
@@ -14,4 +19,4 @@ pub use examples::{
 };
 pub use level_laws::law_of_levels;
 pub use parts::{amount, bits, header, index, lval, no_arguments, number, register};
-pub use reading::read_expr;
+pub use reading::{expr, read_expr};

@@ -1,0 +1,97 @@
+//! The forms of primary expressions, by the words that begin them.
+
+ghost use Rattle.std.specs.Prelude.{◌≡◌, ◌↔◌, ℕ, List, IsTrue};
+ghost use Rattle.elastic_ast.specs.Tree.{PlainExpr};
+ghost use Rattle.spelling.specs.Words.{Word};
+ghost use Rattle.spelling.specs.Grammar.{Begins};
+ghost use Rattle.spelling.specs.Reading.{ahead, MayTake};
+ghost use Rattle.p4_expr.specs.Standing.{EndsBase, StandsTest, StandsHash, StandsCast};
+ghost use Rattle.p4_expr.specs.Bases.{SpellsOwn, SpellsInBrackets, form_of};
+
+use p4_lexer::Kind;
+use spelling::Reader;
+
+/// The form of a primary expression without the slices behind it.
+#[derive(Clone, Copy)]
+pub enum Form {
+    Number,
+    Truth,
+    Name,
+    Place,
+    Validity,
+    Hash,
+    Bracketed,
+    Other,
+}
+
+/// The form of the primary expression that may stand next; Other where none does.
+pub fn form_ahead(reader: &Reader<'_>) -> Form
+    ensures own { (depth : ℕ) (e : PlainExpr) (rest : List Word) → MayTake (SpellsOwn depth e) (ahead reader.now) rest → EndsBase rest → result ≡ form_of e }
+    ensures bracketed { (depth : ℕ) (e : PlainExpr) (rest : List Word) → MayTake (SpellsInBrackets depth e) (ahead reader.now) rest → result ≡ Form.Bracketed }
+{
+    if reader.is_at_any_name() {
+        return name_form(reader);
+    }
+    if reader.is_at_number() {
+        return Form::Number;
+    }
+    if reader.is_at_sign(b"(") {
+        return Form::Bracketed;
+    }
+    if reader.is_at_reserved(b"true") {
+        return Form::Truth;
+    }
+    if reader.is_at_reserved(b"false") {
+        return Form::Truth;
+    }
+    Form::Other
+}
+
+/// The form of what begins with the name that stands next.
+fn name_form(reader: &Reader<'_>) -> Form
+    ensures { (depth : ℕ) (e : PlainExpr) (rest : List Word) → MayTake (SpellsOwn depth e) (ahead reader.now) rest → EndsBase rest → Begins (λ word. word.kind ≡ Kind.Name) (ahead reader.now) → result ≡ form_of e }
+{
+    if is_at_hash(reader) {
+        return Form::Hash;
+    }
+    if !reader.later(1).is_at_sign(b".") {
+        return Form::Name;
+    }
+    if reader.is_at_name(b"hdr") {
+        return if is_at_test(reader) {
+            Form::Validity
+        } else {
+            Form::Place
+        };
+    }
+    if reader.is_at_name(b"meta") {
+        return Form::Place;
+    }
+    if reader.is_at_name(b"std") {
+        return Form::Place;
+    }
+    Form::Name
+}
+
+/// Whether behind the header that stands next its test follows, `.isValid(`.
+fn is_at_test(reader: &Reader<'_>) -> bool
+    ensures { IsTrue result ↔ StandsTest (ahead reader.now) }
+{
+    reader.later(3).is_at_sign(b".")
+        && reader.later(4).is_at_name(b"isValid")
+        && reader.later(5).is_at_sign(b"(")
+}
+
+/// Whether a hash stands next, `hash(`.
+fn is_at_hash(reader: &Reader<'_>) -> bool
+    ensures { IsTrue result ↔ StandsHash (ahead reader.now) }
+{
+    reader.is_at_name(b"hash") && reader.later(1).is_at_sign(b"(")
+}
+
+/// Whether a cast stands next, `(bit`.
+pub fn is_at_cast(reader: &Reader<'_>) -> bool
+    ensures { IsTrue result ↔ StandsCast (ahead reader.now) }
+{
+    reader.is_at_sign(b"(") && reader.later(1).is_at_reserved(b"bit")
+}
