@@ -1,10 +1,4 @@
-pub mod DeclSpelling
-pub mod FieldSpelling
-pub mod Signs
 pub mod StatementTrees
-pub mod StillSpelled
-pub mod SumSpelling
-pub mod Terms
 pub mod TwoKeys
 pub mod StatementsWithin
 pub mod StatementsDeeper
@@ -16,3 +10,4 @@ pub mod Refused
 pub mod DeclarationTrees
 pub mod Cutting
 pub mod WorkedTrees
+pub mod DeclForms

@@ -1,6 +1,6 @@
-pub mod Grammar
 pub mod Declarations
 pub mod ExpressionsIn
 pub mod ProgramOf
 pub mod Examples
 pub mod WorkedTexts
+pub mod Reading

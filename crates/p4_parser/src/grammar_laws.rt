@@ -7,14 +7,8 @@ ghost use Rattle.spelling.specs.Words.{Word};
 ghost use Rattle.spelling.specs.Grammar.{Begins, IsSign};
 ghost use Rattle.spelling.specs.Brackets.{most_open};
 ghost use Rattle.p4_tables.specs.Tables.{Property, SpellsTable};
-ghost use Rattle.p4_parser.specs.Grammar.{Spells};
 ghost use Rattle.p4_statements.specs.Statements.{SpellsStmt, SpellsStmts, SpellsBranch};
 ghost use Rattle.p4_parser.specs.Declarations.{SpellsProgram};
-
-/// What the grammar of symbols, comparisons, the utility and the metadata spells, the grammar of whole programs spells.
-pub fn law_of_first_declarations()
-    ensures { (depth : ℕ) (decls : PlainProgram) (ws : List Word) → Spells depth decls ws → SpellsProgram depth decls ws }
-{}
 
 /// An `if` without `else` is always open, and so, as the first branch of an `if` with `else`, it has brackets around it.
 pub fn law_of_open_ends()

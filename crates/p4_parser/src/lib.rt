@@ -1,14 +1,11 @@
-//! The parser: from the tokens of a text to the tree of the program that they spell. So far it reads symbols,
-//! comparisons, the utility and the metadata; every other declaration is refused.
+//! The parser: from the tokens of a text to the tree of the program that they spell.
 #![tactic(auto)]
 
-mod fields;
+mod controls;
 mod grammar_examples;
 mod grammar_laws;
 mod parsing;
-mod sums;
-#[cfg(test)]
-mod tests;
+mod states;
 
 pub use grammar_examples::{
     block_of_a_stage_is_one_statement, conditions_need_a_depth_of_their_number,
@@ -17,7 +14,7 @@ pub use grammar_examples::{
     touching_signs_close_two_types, worked_declarations_are_spelled,
 };
 pub use grammar_laws::{
-    law_of_first_declarations, law_of_greater_depths, law_of_open_brackets, law_of_open_ends,
+    law_of_greater_depths, law_of_open_brackets, law_of_open_ends,
     no_table_has_two_key_properties,
 };
 pub use parsing::parse;

@@ -1,36 +1,55 @@
-ghost use Rattle.std.specs.Prelude.{ℕ, ◌≤◌, List, length, IfOk};
+ghost use Rattle.std.specs.Prelude.{ℕ, ◌≤◌, ◌↔◌, IsTrue, List, codes, drop, length, IfErr, IfOk};
 ghost use Rattle.elastic_ast.specs.Seen.{seen_decl, seen_program};
 ghost use Rattle.elastic_ast.specs.Tree.{PlainDecl, PlainProgram};
-ghost use Rattle.elastic_ast.specs.declared.declarations.Comp.{Comp};
-ghost use Rattle.elastic_ast.specs.declared.declarations.Field.{Field};
-ghost use Rattle.elastic_ast.specs.declared.declarations.UtilTerm.{UtilTerm};
 ghost use Rattle.spelling.specs.Words.{Word, words};
-ghost use Rattle.spelling.specs.Reading.{ahead, Takes, MayTake, IsAnswer, IsRead};
-ghost use Rattle.p4_parser.specs.Grammar.{Spells, SpellsDecl};
+ghost use Rattle.spelling.specs.Grammar.{Begins, IsReserved};
+ghost use Rattle.spelling.specs.Reading.{ahead, Takes, MayTake, IsReading, IsReadWithin, NamesAtMost};
+ghost use Rattle.p4_parser.specs.Declarations.{SpellsDeclaration, SpellsProgram};
+ghost use Rattle.p4_parser.specs.Reading.{DeclHasFew, ProgramHasFew};
 
-use crate::fields::meta_fields;
-use crate::sums::{comparisons, utility};
+use crate::controls::control;
+use crate::states::parser;
 use elastic_ast::{Decl, Program};
 use elx_bits::Items;
+use p4_declarations::flat;
 use p4_lexer::Token;
 use spelling::{Reader, SyntaxError, keep};
 use std::alloc::Global;
 
-/// Reads the program that the tokens of a text spell, with at most `most_depth` brackets open at any token. Takes the
-/// text in bytes, and its tokens.
+/// Reads the program that the tokens of a text spell, with at most `most_depth` brackets open at any token and at most 64
+/// operators in an expression. Takes the text in bytes, and its tokens as `p4_lexer::lex` gives them. Of brackets `(`, `[` and
+/// `{` count, and a branch of an `if` that is no block counts as one; of operators those of `expr`.
 ///
-/// NotProgram names the token at which the reading stopped: there it neither goes on nor ends a declaration. TooDeep
-/// names a token that opens more than `most_depth` brackets. Either says that the tokens spell no program within that
-/// depth. Memory comes only for want of memory.
+/// NotProgram says that the tokens spell no program, however many brackets are open, and names the token at which the reading
+/// stopped: there it neither goes on nor ends a declaration. TooDeep names a token that opens more brackets than `most_depth` or
+/// begins a 65th operator: no program within the two numbers is spelled. Memory comes only for want of memory.
 pub fn parse(
     alloc: Global,
     text: &[u8],
     tokens: &[Token],
     most_depth: u32,
 ) -> Result<Program, SyntaxError>
-    ensures spelled { IfOk result (λ program. Spells most_depth (seen_program program) (words text.now tokens.now)) }
-    ensures only { (decls : PlainProgram) → Spells most_depth decls (words text.now tokens.now) → IsRead seen_program decls result }
-    ensures few { IfOk result (λ program. length program.decls ≤ length tokens.now) }
+    ensures spelled { IfOk result (λ program. SpellsProgram most_depth (seen_program program) (words text.now tokens.now)) }
+    ensures operators { IfOk result (λ program. ProgramHasFew (seen_program program)) }
+    ensures only { (more : ℕ) (program : PlainProgram) → SpellsProgram more program (words text.now tokens.now) → IsReadWithin ((more ≤ most_depth) × ProgramHasFew program) seen_program program result }
+    ensures named { IfErr result (NamesAtMost (length tokens.now)) }
+{
+    match declarations(alloc, text, tokens, most_depth) {
+        Ok(program) => Ok(program),
+        Err(error) => Err(error.within(tokens.len())),
+    }
+}
+
+/// The same, but a refusal may name a token past the end.
+fn declarations(
+    alloc: Global,
+    text: &[u8],
+    tokens: &[Token],
+    most_depth: u32,
+) -> Result<Program, SyntaxError>
+    ensures spelled { IfOk result (λ program. SpellsProgram most_depth (seen_program program) (words text.now tokens.now)) }
+    ensures operators { IfOk result (λ program. ProgramHasFew (seen_program program)) }
+    ensures only { (more : ℕ) (program : PlainProgram) → SpellsProgram more program (words text.now tokens.now) → IsReadWithin ((more ≤ most_depth) × ProgramHasFew program) seen_program program result }
 {
     let mut reader = Reader::new(text, tokens);
     let mut decls = Items::new(alloc);
@@ -41,73 +60,24 @@ pub fn parse(
     Ok(Program { decls })
 }
 
-/// Reads one declaration, which its first token determines.
+/// Reads one declaration, which its first words determine.
 fn declaration(alloc: Global, reader: &mut Reader<'_>, depth: u32) -> Result<Decl, SyntaxError>
-    ensures taken { IfOk result (λ decl. Takes (SpellsDecl depth (seen_decl decl)) (ahead reader.old) (ahead reader.new)) }
-    ensures only { (decl : PlainDecl) (rest : List Word) → MayTake (SpellsDecl depth decl) (ahead reader.old) rest → IsAnswer seen_decl decl rest (ahead reader.new) result }
+    ensures taken { IfOk result (λ decl. Takes (SpellsDeclaration depth (seen_decl decl)) (ahead reader.old) (ahead reader.new)) }
+    ensures few { IfOk result (λ decl. DeclHasFew (seen_decl decl)) }
+    ensures only { (more : ℕ) (decl : PlainDecl) (rest : List Word) → MayTake (SpellsDeclaration more decl) (ahead reader.old) rest → IsReading ((more ≤ depth) × DeclHasFew decl) seen_decl decl rest (ahead reader.new) result }
 {
-    if reader.is_at_reserved(b"symbolic") {
-        return symbol(alloc, reader);
+    if reader.is_at_reserved(b"parser") {
+        return parser(alloc, reader, depth);
     }
-    if reader.is_at_name(b"assume") {
-        return assume(alloc, reader, depth);
+    if is_at_control(reader) {
+        return control(alloc, reader, depth);
     }
-    if reader.is_at_name(b"maximize") {
-        return maximize(alloc, reader, depth);
-    }
-    if reader.is_at_reserved(b"struct") {
-        return meta(alloc, reader, depth);
-    }
-    Err(reader.refusal())
+    flat(alloc, reader, depth)
 }
 
-/// `symbolic int NAME;`
-fn symbol(alloc: Global, reader: &mut Reader<'_>) -> Result<Decl, SyntaxError>
-    ensures taken { IfOk result (λ decl. (depth : ℕ) → Takes (SpellsDecl depth (seen_decl decl)) (ahead reader.old) (ahead reader.new)) }
-    ensures only { (depth : ℕ) (name : List ℕ) (rest : List Word) → MayTake (SpellsDecl depth (PlainDecl.Symbol name)) (ahead reader.old) rest → IsAnswer seen_decl (PlainDecl.Symbol name) rest (ahead reader.new) result }
+/// Whether a control stands next that is no deparser: that has no `packet_out` behind its bracket.
+fn is_at_control(reader: &Reader<'_>) -> bool
+    ensures { IsTrue result ↔ Begins (IsReserved (codes "control")) (ahead reader.now) × Begins (IsReserved (codes "inout")) (drop 3 (ahead reader.now)) }
 {
-    reader.reserved(b"symbolic")?;
-    reader.reserved(b"int")?;
-    let name = reader.name(alloc)?;
-    reader.sign(b";")?;
-    Ok(Decl::Symbol(name))
-}
-
-/// `assume(COMPARISONS);`
-fn assume(alloc: Global, reader: &mut Reader<'_>, depth: u32) -> Result<Decl, SyntaxError>
-    ensures taken { IfOk result (λ decl. Takes (SpellsDecl depth (seen_decl decl)) (ahead reader.old) (ahead reader.new)) }
-    ensures only { (comps : List Comp) (rest : List Word) → MayTake (SpellsDecl depth (PlainDecl.Assume comps)) (ahead reader.old) rest → IsAnswer seen_decl (PlainDecl.Assume comps) rest (ahead reader.new) result }
-{
-    reader.fixed_name(b"assume")?;
-    let _inner = reader.open(b"(", depth)?;
-    let comps = comparisons(alloc, reader)?;
-    reader.sign(b")")?;
-    reader.sign(b";")?;
-    Ok(Decl::Assume(comps))
-}
-
-/// `maximize(UTILITY);`
-fn maximize(alloc: Global, reader: &mut Reader<'_>, depth: u32) -> Result<Decl, SyntaxError>
-    ensures taken { IfOk result (λ decl. Takes (SpellsDecl depth (seen_decl decl)) (ahead reader.old) (ahead reader.new)) }
-    ensures only { (terms : List UtilTerm) (rest : List Word) → MayTake (SpellsDecl depth (PlainDecl.Maximize terms)) (ahead reader.old) rest → IsAnswer seen_decl (PlainDecl.Maximize terms) rest (ahead reader.new) result }
-{
-    reader.fixed_name(b"maximize")?;
-    let _inner = reader.open(b"(", depth)?;
-    let terms = utility(alloc, reader)?;
-    reader.sign(b")")?;
-    reader.sign(b";")?;
-    Ok(Decl::Maximize(terms))
-}
-
-/// `struct meta_t { FIELDS }`
-fn meta(alloc: Global, reader: &mut Reader<'_>, depth: u32) -> Result<Decl, SyntaxError>
-    ensures taken { IfOk result (λ decl. Takes (SpellsDecl depth (seen_decl decl)) (ahead reader.old) (ahead reader.new)) }
-    ensures only { (fields : List Field) (rest : List Word) → MayTake (SpellsDecl depth (PlainDecl.Meta fields)) (ahead reader.old) rest → IsAnswer seen_decl (PlainDecl.Meta fields) rest (ahead reader.new) result }
-{
-    reader.reserved(b"struct")?;
-    reader.fixed_name(b"meta_t")?;
-    let inner = reader.open(b"{", depth)?;
-    let fields = meta_fields(alloc, reader, inner)?;
-    reader.sign(b"}")?;
-    Ok(Decl::Meta(fields))
+    reader.is_at_reserved(b"control") && reader.later(3).is_at_reserved(b"inout")
 }

@@ -1,50 +1,41 @@
-use Rattle.std.proofs.Common.{codes, refl}
+use Rattle.std.proofs.Common.{◌≤◌, codes, refl}
 use Rattle.elastic_ast.specs.Seen.{seen_decl}
-use Rattle.spelling.specs.Reading.{IsAnswer, IsWant, ahead}
+use Rattle.spelling.specs.Reading.{ahead, IsReading, Takes}
+use Rattle.spelling.proofs.Limits.{reading_as}
 use Rattle.spelling.proofs.Only.{not_there, other_text}
-use Rattle.p4_parser.proofs.DeclSpelling.{by_form}
+use Rattle.spelling.proofs.Taking.{takes_as}
+use Rattle.p4_declarations.specs.Flat.{SpellsFlat}
+use Rattle.p4_statements.proofs.Ahead.{if_ok_as}
+use Rattle.p4_parser.specs.Reading.{DeclHasFew}
+use Rattle.p4_parser.proofs.DeclForms.{by_form, flat_declaration}
 use Rattle.p4_parser.proofs.parsing.declaration.Goals as goal
 
 pub returns-then-is_at_reserved-clause-only : goal.returns-then-is_at_reserved-clause-only
-returns-then-is_at_reserved-clause-only c = λ decl rest m.
-    let at = c.if-is_at_reserved.ensures.0 refl in
-    by_form c.args.depth (λ d. IsAnswer seen_decl d rest (ahead c.symbol.new.reader) c.symbol.result) decl m
-    (λ symbol f b. c.symbol.ensures.only c.args.depth symbol rest f)
-    (λ comps f b. absurd (other_text (codes "assume") (codes "symbolic") (ahead c.args.reader.now) refl (λ word h. h.1) (λ word h. h.1) b at))
-    (λ terms f b. absurd (other_text (codes "maximize") (codes "symbolic") (ahead c.args.reader.now) refl (λ word h. h.1) (λ word h. h.1) b at))
-    (λ fields f b. absurd (other_text (codes "struct") (codes "symbolic") (ahead c.args.reader.now) refl (λ word h. h.1) (λ word h. h.1) b at))
+returns-then-is_at_reserved-clause-only c = λ more decl rest m.
+    by_form more (λ d. IsReading ((more ≤ c.args.depth) × DeclHasFew d) seen_decl d rest (ahead c.parser.new.reader) c.parser.result) decl m
+    (λ name states f at. c.parser.ensures.only more name states rest f)
+    (λ name locals body f at inout. absurd (other_text (codes "control") (codes "parser") (ahead c.args.reader.now) refl (λ word h. h.1) (λ word h. h.1) at (c.if-is_at_reserved.ensures.0 refl)))
+    (λ decl f words. absurd (words.no_parser (c.if-is_at_reserved.ensures.0 refl)))
 
-pub returns-then-is_at_name-clause-only : goal.returns-then-is_at_name-clause-only
-returns-then-is_at_name-clause-only c = λ decl rest m.
-    let at = c.if-is_at_name.ensures.0 refl in
-    by_form c.args.depth (λ d. IsAnswer seen_decl d rest (ahead c.assume.new.reader) c.assume.result) decl m
-    (λ symbol f b. absurd (other_text (codes "symbolic") (codes "assume") (ahead c.args.reader.now) refl (λ word h. h.1) (λ word h. h.1) b at))
-    (λ comps f b. c.assume.ensures.only comps rest f)
-    (λ terms f b. absurd (other_text (codes "maximize") (codes "assume") (ahead c.args.reader.now) refl (λ word h. h.1) (λ word h. h.1) b at))
-    (λ fields f b. absurd (other_text (codes "struct") (codes "assume") (ahead c.args.reader.now) refl (λ word h. h.1) (λ word h. h.1) b at))
+pub returns-then-is_at_control-clause-only : goal.returns-then-is_at_control-clause-only
+returns-then-is_at_control-clause-only c = λ more decl rest m.
+    let at = c.if-is_at_control.ensures.0 refl in
+    by_form more (λ d. IsReading ((more ≤ c.args.depth) × DeclHasFew d) seen_decl d rest (ahead c.control.new.reader) c.control.result) decl m
+    (λ name states f first. absurd (not_there c.if-is_at_reserved.ensures.1 first))
+    (λ name locals body f first inout. c.control.ensures.only more name locals body rest f)
+    (λ decl f words. absurd (words.no_control at.0 at.1))
 
-pub returns-then-is_at_name-2-clause-only : goal.returns-then-is_at_name-2-clause-only
-returns-then-is_at_name-2-clause-only c = λ decl rest m.
-    let at = c.if-is_at_name-2.ensures.0 refl in
-    by_form c.args.depth (λ d. IsAnswer seen_decl d rest (ahead c.maximize.new.reader) c.maximize.result) decl m
-    (λ symbol f b. absurd (other_text (codes "symbolic") (codes "maximize") (ahead c.args.reader.now) refl (λ word h. h.1) (λ word h. h.1) b at))
-    (λ comps f b. absurd (other_text (codes "assume") (codes "maximize") (ahead c.args.reader.now) refl (λ word h. h.1) (λ word h. h.1) b at))
-    (λ terms f b. c.maximize.ensures.only terms rest f)
-    (λ fields f b. absurd (other_text (codes "struct") (codes "maximize") (ahead c.args.reader.now) refl (λ word h. h.1) (λ word h. h.1) b at))
+pub returns-clause-taken : goal.returns-clause-taken
+returns-clause-taken c =
+    if_ok_as (λ d. Takes (SpellsFlat c.args.depth (seen_decl d)) (ahead c.args.reader.now) (ahead c.flat.new.reader)) _ _ (λ d t. takes_as (λ ws h. (flat_declaration c.args.depth (seen_decl d) ws h).0) t) c.flat.ensures.taken
 
-pub returns-then-is_at_reserved-2-clause-only : goal.returns-then-is_at_reserved-2-clause-only
-returns-then-is_at_reserved-2-clause-only c = λ decl rest m.
-    let at = c.if-is_at_reserved-2.ensures.0 refl in
-    by_form c.args.depth (λ d. IsAnswer seen_decl d rest (ahead c.meta.new.reader) c.meta.result) decl m
-    (λ symbol f b. absurd (other_text (codes "symbolic") (codes "struct") (ahead c.args.reader.now) refl (λ word h. h.1) (λ word h. h.1) b at))
-    (λ comps f b. absurd (other_text (codes "assume") (codes "struct") (ahead c.args.reader.now) refl (λ word h. h.1) (λ word h. h.1) b at))
-    (λ terms f b. absurd (other_text (codes "maximize") (codes "struct") (ahead c.args.reader.now) refl (λ word h. h.1) (λ word h. h.1) b at))
-    (λ fields f b. c.meta.ensures.only fields rest f)
+pub returns-clause-few : goal.returns-clause-few
+returns-clause-few c =
+    if_ok_as (λ d. Takes (SpellsFlat c.args.depth (seen_decl d)) (ahead c.args.reader.now) (ahead c.flat.new.reader)) _ _ (λ d t. (flat_declaration c.args.depth (seen_decl d) t.front t.spelled).1) c.flat.ensures.taken
 
 pub returns-clause-only : goal.returns-clause-only
-returns-clause-only c = λ decl rest m.
-    by_form c.args.depth (λ _. IsWant c.refusal.result) decl m
-    (λ symbol f b. absurd (not_there c.if-is_at_reserved.ensures.1 b))
-    (λ comps f b. absurd (not_there c.if-is_at_name.ensures.1 b))
-    (λ terms f b. absurd (not_there c.if-is_at_name-2.ensures.1 b))
-    (λ fields f b. absurd (not_there c.if-is_at_reserved-2.ensures.1 b))
+returns-clause-only c = λ more decl rest m.
+    by_form more (λ d. IsReading ((more ≤ c.args.depth) × DeclHasFew d) seen_decl d rest (ahead c.flat.new.reader) c.flat.result) decl m
+    (λ name states f first. absurd (not_there c.if-is_at_reserved.ensures.1 first))
+    (λ name locals body f first inout. absurd (not_there c.if-is_at_control.ensures.1 (first, inout)))
+    (λ decl f words. reading_as _ _ _ _ _ _ _ (λ few. few.0) (c.flat.ensures.only more decl rest f))
