@@ -1,20 +1,19 @@
 -- The first words of each form of primary expressions.
-use Rattle.std.proofs.Common.{◌≡◌, ℕ, ◌+◌, Bool, true, false, List, Option, None, Some, [], ◌∷◌, ◌++◌, codes, drop, refl, sym, ap, subst, ◌∙◌, bytes_eq, ◌⊎◌, inl, inr, IsTrue}
+use Rattle.std.proofs.Common.{◌≡◌, ℕ, ◌+◌, true, false, List, Option, [], ◌∷◌, ◌++◌, codes, drop, refl, sym, ap, subst, ◌∙◌, bytes_eq, ◌⊎◌, inl, inr, IsTrue}
 use Rattle.std.proofs.lemmas.List.{drop-drop}
 use Rattle.std.proofs.lemmas.Bool.{false≢true}
 use Rattle.p4_lexer.specs.declared.token.Kind.{Kind}
 use Rattle.p4_lexer.specs.declared.token.Kind.TheVariants as kind
-use Rattle.elastic_ast.specs.declared.statements.Amount.{Amount}
 use Rattle.elastic_ast.specs.declared.statements.Lval.{Lval}
 use Rattle.elastic_ast.specs.declared.statements.Lval.TheVariants as lval
 use Rattle.elastic_ast.specs.Tree.{PlainExpr}
 use Rattle.spelling.specs.Words.{Word}
-use Rattle.spelling.specs.Grammar.{Grammar, ◌⨟◌, One, Sign, Named, Reserved, IsSign, IsNamed, IsReserved, Begins, is_number, is_reserved, is_sign}
+use Rattle.spelling.specs.Grammar.{Grammar, ◌⨟◌, One, IsSign, IsNamed, IsReserved, Begins, is_number, is_reserved, is_sign}
 use Rattle.spelling.specs.Reading.{MayTake}
-use Rattle.spelling.proofs.Only.{alone, begins, begins_both, begins_bracketed, begins_first, empty_same, not_sign, of_where, other_text, regroup, split}
-use Rattle.p4_expr.specs.Parts.{SpellsHeader, SpellsLval, SpellsIsValid, SpellsNumber, SpellsTruth}
+use Rattle.spelling.proofs.Only.{alone, begins, begins_bracketed, begins_first, empty_same, not_sign, of_where, other_text, regroup, split}
+use Rattle.p4_expr.specs.Parts.{SpellsHeader, SpellsLval, SpellsIsValid}
 use Rattle.p4_expr.specs.Bases.{SpellsOwn, form_of}
-use Rattle.p4_expr.specs.Standing.{EndsBase, StandsTest, StandsHash}
+use Rattle.p4_expr.specs.Standing.{StandsTest, StandsHash}
 use Rattle.p4_expr.specs.declared.forms.Form.{Form}
 use Rattle.p4_expr.specs.declared.forms.Form.TheVariants as form
 

@@ -1,20 +1,17 @@
 -- An expression of a level is one of the next stronger level, and the operators of the level with their right operands.
-use Rattle.std.proofs.Common.{◌≡◌, ℕ, zero, suc, ◌+◌, ◌-◌, ◌<◌, ◌≤◌, Bool, true, false, bytes_eq, List, [], ◌∷◌, ◌++◌, codes, drop, refl, sym, ap, subst, ◌∙◌, arith, append_assoc, append-nil, inl, inr}
+use Rattle.std.proofs.Common.{◌≡◌, ℕ, suc, List, [], ◌∷◌, ◌++◌, codes, refl, sym, ap, subst, ◌∙◌, arith, append_assoc, append-nil}
 use Rattle.elastic_ast.specs.Tree.{PlainExpr}
 use Rattle.elastic_ast.specs.Operators.{Operator, Or, And, Equal, Differ, Less, AtMost, Greater, AtLeast, BitOr, BitXor, BitAnd, ShiftUp, ShiftDown, Plus, Minus, Join, Times, Turn, Negate, NoOperator}
 use Rattle.spelling.specs.Words.{Word}
-use Rattle.spelling.specs.Grammar.{Grammar, ◌⨟◌, Each, One, TwoTouching, Sign, IsSign, Begins, BeginTouching}
-use Rattle.spelling.specs.Reading.{Takes, MayTake, Ends}
+use Rattle.spelling.specs.Grammar.{◌⨟◌, Each, Begins}
+use Rattle.spelling.specs.Reading.{MayTake}
 use Rattle.p4_expr.specs.Parts.{SpellsBits, SpellsCast}
-use Rattle.spelling.proofs.Only.{after_one, begins, begins_bracketed, begins_first, empty_same, ends_sign, is_none, split}
-use Rattle.spelling.proofs.Taking.{all_taken, may, may_both, takes_both}
-use Rattle.p4_expr.specs.Operators.{IsOperator, SpellsOperator, level_of, operators_in}
-use Rattle.p4_expr.specs.Expressions.{SpellsLevel, SpellsPrefixed, SpellsPrimary}
-use Rattle.p4_expr.specs.GoesOn.{expression_signs}
-use Rattle.p4_expr.specs.Standing.{EndsLevel, NoneStands, Passes, Stands}
-use Rattle.p4_expr.proofs.OperatorsAhead.{StandsAlone, first_text, same_code, same_operator, stands_text}
+use Rattle.spelling.proofs.Only.{begins_bracketed}
+use Rattle.spelling.proofs.Taking.{all_taken}
+use Rattle.p4_expr.specs.Operators.{IsOperator, SpellsOperator, level_of}
+use Rattle.p4_expr.specs.Expressions.{SpellsLevel, SpellsPrefixed}
 use Rattle.p4_expr.proofs.Slices.{one_more, primary_starts}
-use Rattle.p4_expr.proofs.Starts.{IsPrimaryStart, IsStart, begins_also, begins_front, begins_taken, never_both, sign_start}
+use Rattle.p4_expr.proofs.Starts.{IsStart, begins_also, begins_front, sign_start}
 
 -- an operator's code and its right operand
 abbrev pub Step : Type 0

@@ -1,18 +1,16 @@
 -- Reading the operators of a level one by one.
-use Rattle.std.proofs.Common.{◌≡◌, ℕ, zero, suc, ◌+◌, ◌-◌, ◌<◌, ◌≤◌, Bool, true, false, List, [], ◌∷◌, ◌++◌, codes, drop, refl, sym, ap, subst, ◌∙◌, arith, append_assoc, inl, inr}
-use Rattle.elastic_ast.specs.Tree.{PlainExpr}
+use Rattle.std.proofs.Common.{◌≡◌, ℕ, List, [], ◌∷◌, ◌++◌, codes, drop, sym, ap, subst, ◌∙◌}
 use Rattle.elastic_ast.specs.Operators.{Operator, Or, And, Equal, Differ, Less, AtMost, Greater, AtLeast, BitOr, BitXor, BitAnd, ShiftUp, ShiftDown, Plus, Minus, Join, Times, Turn, Negate, NoOperator}
 use Rattle.spelling.specs.Words.{Word}
-use Rattle.spelling.specs.Grammar.{Grammar, ◌⨟◌, Each, One, TwoTouching, Sign, IsSign, Begins, BeginTouching}
-use Rattle.spelling.specs.Reading.{Takes, MayTake, Ends}
-use Rattle.spelling.proofs.Only.{after_one, begins, begins_first, empty_same, ends_sign, is_none, split}
-use Rattle.spelling.proofs.Taking.{may, takes_both}
-use Rattle.p4_expr.specs.Operators.{IsOperator, SpellsOperator, level_of, operators_in}
+use Rattle.spelling.specs.Grammar.{Grammar, ◌⨟◌, TwoTouching, Sign, IsSign, Begins, BeginTouching}
+use Rattle.spelling.specs.Reading.{Takes, MayTake}
+use Rattle.spelling.proofs.Only.{after_one, begins, split}
+use Rattle.spelling.proofs.Taking.{may}
+use Rattle.p4_expr.specs.Operators.{IsOperator, SpellsOperator}
 use Rattle.p4_expr.specs.Expressions.{SpellsLevel}
-use Rattle.p4_expr.specs.GoesOn.{expression_signs}
-use Rattle.p4_expr.specs.Standing.{EndsLevel, NoneStands, Passes, Stands}
-use Rattle.p4_expr.proofs.OperatorsAhead.{StandsAlone, first_text, same_code, same_operator, stands_text, touching_first}
-use Rattle.p4_expr.proofs.LevelParts.{LevelAhead, SpellsStep, Step, built, level_starts}
+use Rattle.p4_expr.specs.Standing.{Stands}
+use Rattle.p4_expr.proofs.OperatorsAhead.{StandsAlone}
+use Rattle.p4_expr.proofs.LevelParts.{SpellsStep, Step, level_starts}
 use Rattle.p4_expr.proofs.Starts.{IsStart, begins_taken, never_both}
 
 -- an operator that is spelled stands there

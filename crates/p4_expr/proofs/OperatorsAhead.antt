@@ -1,13 +1,11 @@
 -- Which operator stands first.
-use Rattle.std.proofs.Common.{◌≡◌, ℕ, zero, suc, ◌+◌, ◌<◌, ◌≤◌, Bool, true, false, bytes_eq, cond, List, Option, Some, None, [], ◌∷◌, ◌++◌, codes, drop, refl, sym, ap, subst, ◌∙◌, arith, inl, inr, ◌⊎◌}
+use Rattle.std.proofs.Common.{◌≡◌, ℕ, zero, suc, ◌+◌, ◌≤◌, Bool, true, false, bytes_eq, cond, List, Some, None, [], ◌∷◌, codes, refl, sym, ap, subst, ◌∙◌, arith, inl, inr, ◌⊎◌}
 use Rattle.std.specs.Prelude.{slice_get}
 use Rattle.elastic_ast.specs.Operators.{Operator, Or, And, Equal, Differ, Less, AtMost, Greater, AtLeast, BitOr, BitXor, BitAnd, ShiftUp, ShiftDown, Plus, Minus, Join, Times, Turn, Negate, NoOperator, operators}
 use Rattle.spelling.specs.Words.{Word}
-use Rattle.spelling.specs.Grammar.{Grammar, ◌⨟◌, One, TwoTouching, Sign, IsSign, Begins, BeginTouching}
-use Rattle.spelling.specs.Reading.{Takes, MayTake, Ends}
-use Rattle.spelling.proofs.Only.{after_one, begins, begins_both, begins_first, ends_sign, is_none, split}
-use Rattle.spelling.proofs.Taking.{may}
-use Rattle.p4_expr.specs.Operators.{IsOperator, SpellsOperator, level_of, text_of}
+use Rattle.spelling.specs.Grammar.{IsSign, Begins, BeginTouching}
+use Rattle.spelling.proofs.Only.{begins_both}
+use Rattle.p4_expr.specs.Operators.{IsOperator, level_of, text_of}
 use Rattle.p4_expr.specs.Standing.{Stands}
 
 -- the text of an operator's first sign

@@ -1,8 +1,8 @@
 -- What one word of a piece of an expression says of what was read.
-use Rattle.std.proofs.Common.{◌≡◌, ℕ, Bool, true, false, List, Some, None, codes, refl, sym, ◌∙◌}
+use Rattle.std.proofs.Common.{◌≡◌, ℕ, Bool, true, false, List, None, codes, refl, sym, ◌∙◌}
 use Rattle.p4_lexer.specs.declared.token.Kind.TheVariants as kind
 use Rattle.spelling.specs.Words.{Word}
-use Rattle.spelling.specs.Grammar.{Grammar, ◌⨟◌, Num, Reserved, IsNum, IsReserved, Begins}
+use Rattle.spelling.specs.Grammar.{Grammar, ◌⨟◌, Num, Reserved, IsReserved, Begins}
 use Rattle.spelling.specs.Reading.{Takes, MayTake, IsWant, MayRefuse}
 use Rattle.spelling.specs.declared.error.SyntaxError.{SyntaxError}
 use Rattle.spelling.proofs.Only.{begins, begins_both, begins_first, other_text, same_end, stands}

@@ -1,20 +1,20 @@
 -- Which of the three forms an expression of level 0 has.
-use Rattle.std.proofs.Common.{◌≡◌, ℕ, zero, suc, ◌+◌, ◌≤◌, List, [], ◌∷◌, ◌++◌, codes, drop, refl, sym, ap, subst, ◌∙◌, arith, inl, inr}
+use Rattle.std.proofs.Common.{◌≡◌, ℕ, zero, suc, ◌+◌, ◌≤◌, List, [], ◌∷◌, ◌++◌, codes, drop, refl, subst, arith, inl, inr}
 use Rattle.elastic_ast.specs.Tree.{PlainExpr}
 use Rattle.elastic_ast.specs.declared.statements.Amount.{Amount}
 use Rattle.elastic_ast.specs.Operators.{Operator, Or, And, Equal, Differ, Less, AtMost, Greater, AtLeast, BitOr, BitXor, BitAnd, ShiftUp, ShiftDown, Plus, Minus, Join, Times, Turn, Negate, NoOperator}
 use Rattle.spelling.specs.Words.{Word}
-use Rattle.spelling.specs.Grammar.{Grammar, ◌⨟◌, Each, IsSign, IsReserved, Begins}
+use Rattle.spelling.specs.Grammar.{Grammar, ◌⨟◌, IsSign, Begins}
 use Rattle.spelling.specs.Reading.{Takes, MayTake}
 use Rattle.spelling.proofs.Only.{begins_bracketed, begins_first, ends_sign, not_sign, of_where, reserved_no_sign, split}
-use Rattle.spelling.proofs.Taking.{may, may_both, takes_both}
+use Rattle.spelling.proofs.Taking.{may, takes_both}
 use Rattle.p4_expr.specs.Operators.{IsOperator, SpellsOperator, level_of, operators_in}
-use Rattle.p4_expr.specs.Parts.{SpellsBits, SpellsCast}
-use Rattle.p4_expr.specs.Expressions.{SpellsExpr, SpellsLevel, SpellsPrefixed, SpellsPrimary}
+use Rattle.p4_expr.specs.Parts.{SpellsCast}
+use Rattle.p4_expr.specs.Expressions.{SpellsExpr, SpellsPrefixed, SpellsPrimary}
 use Rattle.p4_expr.specs.Bases.{SpellsOwn, SpellsInBrackets, SpellsBase}
 use Rattle.p4_expr.specs.Standing.{NoneStands, Passes, Stands, StandsCast}
 use Rattle.p4_expr.proofs.FormWords.{behind_word, name_no_sign, number_no_sign, own_first}
-use Rattle.p4_expr.proofs.OperatorsAhead.{StandsAlone, first_text, same_code, same_operator, stands_text}
+use Rattle.p4_expr.proofs.OperatorsAhead.{first_text, same_code, same_operator, stands_text}
 use Rattle.p4_expr.proofs.LevelParts.{level_starts, prefixed_starts}
 use Rattle.p4_expr.proofs.LevelSteps.{after_operator, stands_alone, stands_there}
 use Rattle.p4_expr.proofs.Slices.{primary_starts}

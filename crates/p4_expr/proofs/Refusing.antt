@@ -1,5 +1,5 @@
 -- A refusal for operators that are too many, and small facts about the forms and levels that a reader goes by.
-use Rattle.std.proofs.Common.{◌≡◌, ℕ, zero, suc, ◌+◌, ◌≤◌, List, sym, subst}
+use Rattle.std.proofs.Common.{◌≡◌, ℕ, List, sym, subst}
 use Rattle.elastic_ast.specs.Tree.{PlainExpr}
 use Rattle.spelling.specs.Words.{Word}
 use Rattle.spelling.specs.Reading.{Takes, MayTake, WantsOr}

@@ -1,16 +1,12 @@
 -- A primary expression is a base and the slices behind it.
-use Rattle.std.proofs.Common.{◌≡◌, ℕ, zero, suc, ◌+◌, ◌≤◌, List, [], ◌∷◌, ◌++◌, codes, refl, sym, ap, subst, ◌∙◌, arith, append_assoc, append-nil, inl, inr}
-use Rattle.elastic_ast.specs.declared.statements.Amount.{Amount}
+use Rattle.std.proofs.Common.{◌≡◌, ℕ, suc, List, [], ◌∷◌, ◌++◌, refl, sym, ap, subst, ◌∙◌, append_assoc, append-nil, inl, inr}
 use Rattle.elastic_ast.specs.Tree.{PlainExpr}
 use Rattle.spelling.specs.Words.{Word}
-use Rattle.spelling.specs.Grammar.{Grammar, ◌⨟◌, Each, Sign, IsSign, Begins, Bracketed, Num}
-use Rattle.spelling.specs.Reading.{Takes, MayTake}
-use Rattle.spelling.proofs.Only.{begins_bracketed, empty_same, fact_of, of_where, split}
-use Rattle.spelling.proofs.Taking.{all_taken, each_more, may, spells_all, takes_both}
+use Rattle.spelling.specs.Grammar.{Grammar, ◌⨟◌, Each, Begins}
+use Rattle.spelling.proofs.Taking.{all_taken, each_more, spells_all}
 use Rattle.p4_expr.specs.Parts.{SpellsBitRange}
-use Rattle.p4_expr.specs.Expressions.{SpellsExpr, SpellsPrimary}
-use Rattle.p4_expr.specs.Operators.{operators_in}
-use Rattle.p4_expr.specs.Bases.{SpellsOwn, SpellsInBrackets, SpellsBase}
+use Rattle.p4_expr.specs.Expressions.{SpellsPrimary}
+use Rattle.p4_expr.specs.Bases.{SpellsBase}
 use Rattle.p4_expr.proofs.Starts.{IsPrimaryStart, base_starts, begins_front}
 
 abbrev pub Bits : Type 0

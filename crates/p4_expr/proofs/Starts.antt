@@ -1,18 +1,15 @@
 -- The first word of an expression.
-use Rattle.std.proofs.Common.{◌≡◌, ℕ, zero, suc, List, Option, [], ◌∷◌, ◌++◌, Bool, true, false, bytes_eq, IsTrue, codes, refl, sym, ap, subst, ◌∙◌, ◌⊎◌, inl, inr, append_assoc}
+use Rattle.std.proofs.Common.{◌≡◌, ℕ, List, [], ◌∷◌, ◌++◌, false, bytes_eq, IsTrue, codes, refl, sym, ap, subst, ◌∙◌, inl, inr}
 use Rattle.std.proofs.lemmas.Bool.{false≢true}
 use Rattle.std.proofs.lemmas.Slice.Eq.{bytes_eq-Decides}
 use Rattle.p4_lexer.specs.declared.token.Kind.{Kind}
-use Rattle.p4_lexer.specs.declared.token.Kind.TheVariants as kind
 use Rattle.elastic_ast.specs.Tree.{PlainExpr}
-use Rattle.elastic_ast.specs.Operators.{Operator, Turn, Negate}
 use Rattle.spelling.specs.Words.{Word}
-use Rattle.spelling.specs.Grammar.{Grammar, ◌⨟◌, Each, IsSign, IsReserved, Begins, is_sign, is_reserved, is_number}
+use Rattle.spelling.specs.Grammar.{Grammar, IsSign, IsReserved, Begins, is_sign, is_reserved}
 use Rattle.spelling.specs.Reading.{MayTake}
 use Rattle.spelling.proofs.Only.{begins_bracketed, reserved_no_sign}
 use Rattle.spelling.proofs.Taking.{all_taken}
-use Rattle.p4_expr.specs.Parts.{SpellsBitRange}
-use Rattle.p4_expr.specs.Expressions.{SpellsExpr, SpellsLevel, SpellsPrefixed, SpellsPrimary}
+use Rattle.p4_expr.specs.Expressions.{SpellsExpr}
 use Rattle.p4_expr.specs.Bases.{SpellsOwn, SpellsInBrackets, SpellsBase}
 use Rattle.p4_expr.proofs.FormWords.{own_first, number_sort}
 

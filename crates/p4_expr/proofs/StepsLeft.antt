@@ -1,17 +1,17 @@
 -- The operators of a level that are still ahead of the reader.
-use Rattle.std.proofs.Common.{◌≡◌, ℕ, zero, suc, ◌+◌, ◌<◌, ◌≤◌, Bool, true, false, List, [], ◌∷◌, ◌++◌, codes, refl, sym, ap, subst, ◌∙◌, arith, append_assoc}
+use Rattle.std.proofs.Common.{◌≡◌, ℕ, suc, ◌+◌, ◌<◌, ◌≤◌, true, List, [], ◌∷◌, ◌++◌, codes, refl, sym, ap, subst, ◌∙◌, arith, append_assoc}
 use Rattle.elastic_ast.specs.Tree.{PlainExpr}
 use Rattle.elastic_ast.specs.Operators.{Operator, Or, And, Equal, Differ, Less, AtMost, Greater, AtLeast, BitOr, BitXor, BitAnd, ShiftUp, ShiftDown, Plus, Minus, Join, Times, Turn, Negate, NoOperator}
 use Rattle.spelling.specs.Words.{Word}
-use Rattle.spelling.specs.Grammar.{Grammar, ◌⨟◌, Each, IsSign, Begins, BeginTouching}
+use Rattle.spelling.specs.Grammar.{◌⨟◌, Each, IsSign, Begins}
 use Rattle.spelling.specs.Reading.{Takes, MayTake, Ends}
-use Rattle.spelling.proofs.Only.{empty_same, ends_sign, is_none, split}
+use Rattle.spelling.proofs.Only.{empty_same, ends_sign, is_none}
 use Rattle.spelling.proofs.Taking.{may, may_both, takes_as, takes_both}
-use Rattle.p4_expr.specs.Operators.{IsOperator, SpellsOperator, level_of, operators_in}
+use Rattle.p4_expr.specs.Operators.{SpellsOperator, level_of, operators_in}
 use Rattle.p4_expr.specs.Expressions.{SpellsLevel}
 use Rattle.p4_expr.specs.GoesOn.{expression_signs}
 use Rattle.p4_expr.specs.Standing.{EndsLevel, NoneStands, Passes, Stands}
-use Rattle.p4_expr.proofs.OperatorsAhead.{StandsAlone, first_text, same_code, same_operator, stands_text, touching_first}
+use Rattle.p4_expr.proofs.OperatorsAhead.{first_text, same_code, same_operator, stands_text, touching_first}
 use Rattle.p4_expr.proofs.LevelParts.{SpellsStep, Step, built}
 use Rattle.p4_expr.proofs.LevelSteps.{after_operator, stands_there, step_ahead, step_alone}
 

@@ -1,6 +1,6 @@
 -- What stands next where an expression of a level may end or go on, this project's own.
 use Rattle.std.specs.Prelude.{◌≡◌, ℕ, ◌<◌, ◌≤◌, List, codes, drop}
-use Rattle.elastic_ast.specs.Operators.{Operator, Or, And, Equal, Differ, Less, AtMost, Greater, AtLeast, BitOr, BitXor, BitAnd, ShiftUp, ShiftDown, Plus, Minus, Join, Times, Turn, Negate, NoOperator}
+use Rattle.elastic_ast.specs.Operators.{Operator, ShiftDown, NoOperator}
 use Rattle.spelling.specs.Words.{Word}
 use Rattle.spelling.specs.Grammar.{Begins, BeginTouching, IsSign, IsNamed, IsReserved}
 use Rattle.spelling.specs.Reading.{Takes}

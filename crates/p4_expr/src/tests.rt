@@ -1,4 +1,6 @@
-//! Texts and their trees, written with each operator's code before its operands.
+//! Texts and their trees, written with each operator before its operands.
+
+ghost use Rattle.std.specs.Prelude.{◌<◌};
 
 use crate::expr;
 use elastic_ast::Expr;
@@ -7,7 +9,7 @@ use spelling::SyntaxError;
 use std::alloc::{AllocError, Global};
 use std::test::Fail;
 
-/// The tree of the text's expression and how many tokens it has, or the refusal.
+/// The expression that a text begins with, and how many tokens it has.
 fn read(alloc: Global, text: &[u8], most_depth: u32) -> Result<(Expr, usize), SyntaxError> {
     if text.len() > 16_777_216 {
         return Err(SyntaxError::Memory);
@@ -18,59 +20,47 @@ fn read(alloc: Global, text: &[u8], most_depth: u32) -> Result<(Expr, usize), Sy
     }
 }
 
-/// Writes a tree, names as they are.
+/// Writes a tree: names as they are, and a number or an operator's code as a letter, counted from A.
 fn write(to: &mut Vec<u8>, e: &Expr) -> Result<(), AllocError> {
     match e {
-        Expr::Num { value, .. } => put(to, b'#', (value % 256) as u16),
-        Expr::Bool(which) => put(to, b'?', u16::from(*which)),
+        Expr::Num { value, .. } => put(to, b'#', (value % 26) as u8),
+        Expr::Bool(which) => put(to, b'?', u8::from(*which)),
         Expr::Named(name) => to.extend_from_slice(name.as_slice()),
-        Expr::Field(_) => put(to, b'.', 0),
+        Expr::Field(_) => to.extend_from_slice(b"."),
         Expr::IsValid(name) => to.extend_from_slice(name.as_slice()),
         Expr::Unary { op, of } => {
-            put(to, b'(', *op)?;
+            put(to, b'(', (op % 26) as u8)?;
             write(to, of)?;
-            put(to, b')', 0)
+            to.extend_from_slice(b")")
         }
         Expr::Binary { op, left, right } => {
-            put(to, b'(', *op)?;
+            put(to, b'(', (op % 26) as u8)?;
             write(to, left)?;
-            put(to, b' ', 0)?;
+            to.extend_from_slice(b" ")?;
             write(to, right)?;
-            put(to, b')', 0)
+            to.extend_from_slice(b")")
         }
         Expr::Cast { width, of } => {
-            put(to, b'c', u16::from(*width))?;
+            put(to, b'c', width % 26)?;
             write(to, of)
         }
         Expr::Slice { of, high, low } => {
-            put(to, b's', u16::from(*high))?;
-            put(to, b's', u16::from(*low))?;
+            put(to, b's', high % 26)?;
+            put(to, b's', low % 26)?;
             write(to, of)
         }
         Expr::Hash { of, .. } => {
-            put(to, b'h', 0)?;
+            to.extend_from_slice(b"h")?;
             write(to, of)
         }
     }
 }
 
-/// A letter, and a number below 256 in two digits of base 16 unless it is 0.
-fn put(to: &mut Vec<u8>, letter: u8, number: u16) -> Result<(), AllocError> {
-    to.push(letter)?;
-    if number == 0 {
-        return Ok(());
-    }
-    to.push(digit(number / 16 % 16))?;
-    to.push(digit(number % 16))?;
-    Ok(())
-}
-
-fn digit(value: u16) -> u8 {
-    if value < 10 {
-        b'0' + value as u8
-    } else {
-        b'a' + (value % 16 - 10) as u8
-    }
+/// A sign and a letter.
+fn put(to: &mut Vec<u8>, sign: u8, letter: u8) -> Result<(), AllocError>
+    requires { letter < 26 }
+{
+    to.extend_from_slice(&[sign, b'A' + letter])
 }
 
 fn written(alloc: Global, text: &[u8]) -> Result<Vec<u8>, Fail> {
@@ -83,18 +73,18 @@ fn written(alloc: Global, text: &[u8]) -> Result<Vec<u8>, Fail> {
 #[test]
 fn operators_group_by_their_levels(rt: HostRuntime) -> Result<(), Fail> {
     let cases: [(&[u8], &[u8]); 12] = [
-        (b"a - b - c", b"(0e(0ea b) c)"),
-        (b"a + b * c", b"(0da (10b c))"),
-        (b"a >> 2", b"(0ca #02)"),
-        (b"~x[3:0]", b"(11s03sx)"),
-        (b"h[7:4][1:0]", b"s01ss07s04h"),
-        (b"(bit<8>) x + 1", b"(0dc08x #01)"),
-        (b"hash(i, x, 7) & 3", b"(0ahx #03)"),
-        (b"hdr.h.isValid() && meta.x[i] == 1", b"(01h (02. #01))"),
-        (b"a || !b && c", b"(a (01(12b) c))"),
-        (b"meta.x[7:0] ++ hdr.h.f", b"(0fs07s. .)"),
-        (b"(a <= b) != true", b"(03(05a b) ?01)"),
-        (b"hdr | hash ^ meta", b"(08hdr (09hash meta))"),
+        (b"a - b - c", b"(O(Oa b) c)"),
+        (b"a + b * c", b"(Na (Qb c))"),
+        (b"a >> 2", b"(Ma #C)"),
+        (b"~x[3:0]", b"(RsDsAx)"),
+        (b"h[7:4][1:0]", b"sBsAsHsEh"),
+        (b"(bit<8>) x + 1", b"(NcIx #B)"),
+        (b"hash(i, x, 7) & 3", b"(Khx #D)"),
+        (b"hdr.h.isValid() && meta.x[i] == 1", b"(Bh (C. #B))"),
+        (b"a || !b && c", b"(Aa (B(Sb) c))"),
+        (b"meta.x[7:0] ++ hdr.h.f", b"(PsHsA. .)"),
+        (b"(a <= b) != true", b"(D(Fa b) ?B)"),
+        (b"hdr | hash ^ meta", b"(Ihdr (Jhash meta))"),
     ];
     for (text, tree) in &cases {
         let to = written(rt.alloc(), text)?;

@@ -2,7 +2,7 @@ use Rattle.std.proofs.Common.{◌≡◌, codes, inl, inr, refl, subst, sym}
 use Rattle.spelling.specs.Grammar.{Begins, IsSign}
 use Rattle.spelling.proofs.Only.{not_there}
 use Rattle.p4_expr.specs.declared.forms.Form.TheVariants as form
-use Rattle.p4_expr.proofs.FormWords.{by_name, two_names, two_signs}
+use Rattle.p4_expr.proofs.FormWords.{by_name, two_signs}
 use Rattle.p4_expr.proofs.forms.name_form.Goals as goal
 
 pub returns-then-is_at_hash : goal.returns-then-is_at_hash

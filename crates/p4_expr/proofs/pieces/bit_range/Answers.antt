@@ -1,4 +1,4 @@
-use Rattle.std.proofs.Common.{◌≡◌, ◌<◌, ◌≤◌, ◌^◌, codes, arith, ap, ◌∙◌}
+use Rattle.std.proofs.Common.{codes, arith, ap, ◌∙◌}
 use Rattle.spelling.specs.Grammar.{◌⨟◌, Num, Sign}
 use Rattle.spelling.proofs.Limits.{inside, opens_or, or_answers, want_or}
 use Rattle.spelling.proofs.Only.{after_one, alone, fact_of, of_where, regroup, same_end, wants_number, wants_one}

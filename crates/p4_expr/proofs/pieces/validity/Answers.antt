@@ -1,4 +1,4 @@
-use Rattle.spelling.proofs.Limits.{or_answers, or_as, want_or}
+use Rattle.spelling.proofs.Limits.{or_answers, want_or}
 use Rattle.spelling.proofs.Only.{after, after_one, wants}
 use Rattle.spelling.proofs.Taking.{takes_both}
 use Rattle.p4_expr.proofs.pieces.validity.Goals as goal

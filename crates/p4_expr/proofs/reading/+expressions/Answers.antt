@@ -1,9 +1,9 @@
-use Rattle.std.proofs.Common.{◌≡◌, ℕ, suc, ◌+◌, ◌-◌, ◌<◌, ◌≤◌, codes, ap, arith, inl, inr, refl, subst, sym, ◌∙◌}
+use Rattle.std.proofs.Common.{◌≡◌, suc, ◌+◌, ◌-◌, ◌<◌, ◌≤◌, codes, ap, arith, inl, inr, refl, subst, sym, ◌∙◌}
 use Rattle.std.proofs.lemmas.Result.{IfOk-weaker}
 use Rattle.elastic_ast.specs.Seen.{seen_expr}
 use Rattle.elastic_ast.specs.Tree.{PlainExpr}
 use Rattle.spelling.specs.Grammar.{◌⨟◌, Sign}
-use Rattle.spelling.specs.Reading.{ahead, Takes, MayTake, IsReading, IsWant, WantsOr}
+use Rattle.spelling.specs.Reading.{ahead, Takes, MayTake, IsWant, WantsOr}
 use Rattle.spelling.proofs.Limits.{inside, opens_or, or_answers, or_as, want_or}
 use Rattle.spelling.proofs.Only.{after, after_one, alone, begins, begins_first, not_there, regroup, same_end, wants, wants_one, which}
 use Rattle.spelling.proofs.Taking.{may, takes_as, takes_both, takes_bracketed}

@@ -1,4 +1,4 @@
-use Rattle.std.proofs.Common.{◌≡◌, ◌-◌, List, ap, drop, length, subst, sym, ◌∙◌}
+use Rattle.std.proofs.Common.{◌-◌, ap, drop, length, subst, sym, ◌∙◌}
 use Rattle.elastic_ast.specs.Seen.{seen_expr}
 use Rattle.spelling.specs.Words.{words}
 use Rattle.spelling.specs.Reading.{MayTake, Takes, ahead}

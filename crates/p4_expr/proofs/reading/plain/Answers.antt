@@ -1,4 +1,4 @@
-use Rattle.std.proofs.Common.{◌≡◌, ◌≤◌, ap, arith, refl, subst, sym, ◌∙◌}
+use Rattle.std.proofs.Common.{◌≡◌, ◌≤◌, ap, arith, subst, sym, ◌∙◌}
 use Rattle.elastic_ast.specs.declared.statements.Expr.TheVariants as expr
 use Rattle.p4_expr.specs.Operators.{operators_in}
 use Rattle.elastic_ast.specs.SeenLaws.{seen_expr-num, seen_expr-bool, seen_expr-named, seen_expr-field}
