@@ -53,7 +53,11 @@ pub fn amount(alloc: Global, reader: &mut Reader<'_>) -> Result<Amount, SyntaxEr
 
 /// `[NAME]`, where it is there: not where no bracket follows, or one with a number behind it, which begins a slice. `depth` is
 /// how many brackets may be open from here on. TooDeep names the bracket where none may.
-pub fn index(alloc: Global, reader: &mut Reader<'_>, depth: u32) -> Result<Option<Name>, SyntaxError>
+pub fn index(
+    alloc: Global,
+    reader: &mut Reader<'_>,
+    depth: u32,
+) -> Result<Option<Name>, SyntaxError>
     ensures taken { IfOk result (λ index. MayTake (SpellsIndex depth index) (ahead reader.old) (ahead reader.new)) }
     ensures only { (more : ℕ) (index : Option (List ℕ)) (rest : List Word) → MayTake (SpellsIndex more index) (ahead reader.old) rest → EndsIndex rest → IsReading (more ≤ depth) (λ read. read) index rest (ahead reader.new) result }
 {
