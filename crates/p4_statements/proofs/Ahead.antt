@@ -1,18 +1,18 @@
 -- Words at fixed places of a statement, by which its form is told.
-use Rattle.std.proofs.Common.{◌≡◌, ℕ, zero, suc, ◌+◌, Bool, true, false, List, [], ◌∷◌, drop, Option, Some, None, codes, bytes_eq, refl, sym, ap, subst, ◌∙◌, ◌⊎◌, inl, inr, IsTrue, Result, Ok, Err}
+use Rattle.std.proofs.Common.{◌≡◌, ℕ, zero, suc, Bool, true, false, List, [], ◌∷◌, drop, Option, Some, None, codes, bytes_eq, refl, sym, ap, subst, ◌⊎◌, inl, inr, IsTrue, Result, Ok, Err}
 use Rattle.std.proofs.lemmas.Bool.{false≢true}
 use Rattle.std.specs.Result.{IfOk}
 use Rattle.p4_lexer.specs.declared.token.Kind.TheVariants as kind
 use Rattle.elastic_ast.specs.declared.statements.Lval.{Lval}
 use Rattle.elastic_ast.specs.declared.statements.Lval.TheVariants as lval
 use Rattle.elastic_ast.specs.declared.statements.RegRef.{RegRef}
-use Rattle.elastic_ast.specs.Tree.{Name, PlainExpr, PlainStmt, PlainStmts}
+use Rattle.elastic_ast.specs.Tree.{Name, PlainExpr, PlainStmt}
 use Rattle.spelling.specs.Words.{Word}
 use Rattle.spelling.specs.Grammar.{Grammar, ◌⨟◌, One, Named, Sign, Begins, IsNamed, IsSign, Bracketed, is_sign}
 use Rattle.spelling.specs.Reading.{MayTake}
-use Rattle.spelling.proofs.Only.{begins, begins_as, begins_bracketed, begins_first, not_sign, opened, other_text, regroup, split}
+use Rattle.spelling.proofs.Only.{begins_as, begins_bracketed, begins_first, not_sign, opened, other_text, regroup, split}
 use Rattle.spelling.proofs.Peeling.{past_none}
-use Rattle.p4_expr.specs.Parts.{SpellsHeader, SpellsIndex, SpellsLval, SpellsNoArguments, SpellsRegister}
+use Rattle.p4_expr.specs.Parts.{SpellsIndex, SpellsLval}
 use Rattle.p4_expr.specs.Expressions.{SpellsExpr}
 use Rattle.p4_statements.specs.Statements.{SpellsApply, SpellsCall, SpellsPlain, SpellsValidity}
 use Rattle.p4_statements.specs.Reading.{IsReadAhead, SpellsReadOf, SpellsSimple}

@@ -1,6 +1,5 @@
 -- With which signs an expression may begin: an opening bracket, or an operator before its operand.
-use Rattle.std.proofs.Common.{◌≡◌, ℕ, zero, suc, Bool, true, false, List, [], ◌∷◌, ◌++◌, codes, bytes_eq, refl, ap, subst, ◌∙◌, append_assoc}
-use Rattle.p4_lexer.specs.declared.token.Kind.TheVariants as kind
+use Rattle.std.proofs.Common.{◌≡◌, ℕ, suc, Bool, true, false, List, ◌++◌, codes, bytes_eq, refl, ap, subst, ◌∙◌, append_assoc}
 use Rattle.elastic_ast.specs.declared.statements.Lval.{Lval}
 use Rattle.elastic_ast.specs.declared.statements.Lval.TheVariants as lval
 use Rattle.elastic_ast.specs.Operators.{Operator, Or, And, Equal, Differ, Less, AtMost, Greater, AtLeast, BitOr, BitXor, BitAnd, ShiftUp, ShiftDown, Plus, Minus, Join, Times, Turn, Negate, NoOperator}
@@ -10,7 +9,7 @@ use Rattle.spelling.specs.Grammar.{Grammar, ◌⨟◌, Named, Sign, Begins, IsSi
 use Rattle.spelling.specs.Reading.{MayTake}
 use Rattle.spelling.proofs.Only.{begins, begins_first, not_sign, of_where, regroup, reserved_no_sign, split}
 use Rattle.p4_expr.specs.Parts.{SpellsIsValid, SpellsLval, SpellsNumber, SpellsTruth}
-use Rattle.p4_expr.specs.Operators.{IsOperator, SpellsOperator, level_of, weakest}
+use Rattle.p4_expr.specs.Operators.{SpellsOperator, level_of, weakest}
 use Rattle.p4_expr.specs.Expressions.{SpellsLevel, SpellsPrefixed, SpellsPrimary, SpellsExpr, prefixed, stronger, binary, primary, unary, cast, number, name, truth, place, is_valid, bracketed, hash, slice}
 use Rattle.p4_statements.proofs.Ahead.{not_both}
 use Rattle.p4_statements.proofs.NoRead.{cast_begins, joined_as, put}

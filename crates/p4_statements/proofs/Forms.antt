@@ -1,13 +1,12 @@
 -- The forms of statements, each told by its first word, as rows of words.
-use Rattle.std.proofs.Common.{◌≡◌, ◌≤◌, ◌-◌, ℕ, zero, suc, arith, Bool, true, false, List, [], ◌∷◌, ◌++◌, Option, Some, None, codes, refl, sym, ap, subst, ◌∙◌, ◌⊎◌, inl, inr, append_assoc}
+use Rattle.std.proofs.Common.{◌≡◌, ◌-◌, ℕ, zero, suc, arith, Bool, true, false, List, ◌++◌, Option, Some, None, codes, refl, sym, ap, ◌∙◌, ◌⊎◌, inl, inr, append_assoc}
 use Rattle.p4_lexer.specs.declared.token.Kind.TheVariants as kind
 use Rattle.elastic_ast.specs.Tree.{Name, PlainExpr, PlainStmt, PlainStmts}
 use Rattle.spelling.specs.Words.{Word}
 use Rattle.spelling.specs.Grammar.{Grammar, ◌⨟◌, Begins, Bracketed, IsReserved, IsSign, Reserved, Sign, is_reserved, is_sign}
-use Rattle.spelling.specs.Reading.{MayTake, Takes}
-use Rattle.spelling.proofs.Only.{alone, begins, begins_as, begins_both, begins_first, not_sign, other_text, regroup, reserved_no_sign, split}
+use Rattle.spelling.specs.Reading.{MayTake}
+use Rattle.spelling.proofs.Only.{alone, begins_as, begins_both, begins_first, not_sign, other_text, regroup, reserved_no_sign, split}
 use Rattle.spelling.proofs.Peeling.{past_none}
-use Rattle.spelling.proofs.Taking.{takes_as, takes_both}
 use Rattle.p4_statements.specs.Statements.{SpellsApply, SpellsBranch, SpellsCall, SpellsCondition, SpellsPlain, SpellsStage, SpellsStmt, SpellsStmts, SpellsTurns, is_bare_block, block, without_else, with_else, repeated, called, applied, simple, in_brackets, alone as one_statement}
 use Rattle.p4_statements.specs.Reading.{EndsStmt, SpellsSimple}
 use Rattle.p4_statements.proofs.Ahead.{by_simple, not_both, plain_first, plain_simple}

@@ -1,5 +1,5 @@
 -- What stands before the statements of a block, where its stage may be missing.
-use Rattle.std.proofs.Common.{◌≡◌, ℕ, ◌<◌, ◌^◌, List, Option, Some, None, codes, refl, subst, sym}
+use Rattle.std.proofs.Common.{◌≡◌, ℕ, ◌<◌, ◌^◌, List, Option, Some, None, codes, refl, subst}
 use Rattle.spelling.specs.Words.{Word}
 use Rattle.spelling.specs.Grammar.{◌⨟◌, Begins, Bracketed, IsSign, Named, Num, Sign}
 use Rattle.spelling.specs.Reading.{MayTake}

@@ -1,5 +1,5 @@
 -- A list of statements as a list of the library, and how few operators the expressions of its statements have.
-use Rattle.std.proofs.Common.{◌≡◌, ℕ, Bool, List, [], ◌∷◌, ◌++◌, All, codes, refl, ap, sym, subst, ◌∙◌}
+use Rattle.std.proofs.Common.{◌≡◌, ℕ, Bool, List, [], ◌∷◌, ◌++◌, All, codes, refl, ap, sym, subst}
 use Rattle.std.proofs.lemmas.List.Elements.{All-append, All-cons, All-head, All-nil, All-tail}
 use Rattle.elastic_ast.specs.Seen.{joined}
 use Rattle.elastic_ast.specs.Tree.{PlainExpr, PlainStmt, PlainStmts}

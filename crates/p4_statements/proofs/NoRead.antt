@@ -1,18 +1,17 @@
 -- No expression begins as a read of a register does.
-use Rattle.std.proofs.Common.{◌≡◌, ℕ, zero, suc, Bool, true, false, List, [], ◌∷◌, ◌++◌, drop, Option, Some, None, codes, bytes_eq, refl, sym, ap, subst, ◌∙◌, ◌⊎◌, inl, inr, append_assoc}
+use Rattle.std.proofs.Common.{◌≡◌, ℕ, zero, suc, Bool, true, false, List, ◌∷◌, ◌++◌, drop, Some, None, codes, bytes_eq, refl, sym, ap, subst, ◌∙◌, inl, inr, append_assoc}
 use Rattle.p4_lexer.specs.declared.token.Kind.TheVariants as kind
 use Rattle.elastic_ast.specs.declared.statements.Lval.{Lval}
 use Rattle.elastic_ast.specs.declared.statements.Lval.TheVariants as lval
 use Rattle.elastic_ast.specs.Operators.{Operator, Or, And, Equal, Differ, Less, AtMost, Greater, AtLeast, BitOr, BitXor, BitAnd, ShiftUp, ShiftDown, Plus, Minus, Join, Times, Turn, Negate, NoOperator}
 use Rattle.elastic_ast.specs.Tree.{Name, PlainExpr}
 use Rattle.spelling.specs.Words.{Word}
-use Rattle.spelling.specs.Grammar.{Grammar, ◌⨟◌, One, Named, Num, Sign, TwoTouching, Begins, IsNum, IsSign, Bracketed, is_reserved, is_sign}
+use Rattle.spelling.specs.Grammar.{Grammar, ◌⨟◌, Named, Sign, TwoTouching, Begins, IsSign, is_reserved, is_sign}
 use Rattle.spelling.specs.Reading.{MayTake}
-use Rattle.spelling.proofs.Only.{alone, begins, begins_as, begins_both, begins_bracketed, begins_first, empty_same, of_where, opened, regroup, reserved_no_sign, split}
-use Rattle.spelling.proofs.Peeling.{past_none}
+use Rattle.spelling.proofs.Only.{alone, begins, begins_both, begins_bracketed, begins_first, empty_same, of_where, opened, regroup, split}
 use Rattle.spelling.proofs.Taking.{may_both}
 use Rattle.p4_expr.specs.Parts.{SpellsBitRange, SpellsCast, SpellsHeader, SpellsIsValid, SpellsLval, SpellsNumber, SpellsTruth}
-use Rattle.p4_expr.specs.Operators.{IsOperator, SpellsOperator, weakest}
+use Rattle.p4_expr.specs.Operators.{SpellsOperator, weakest}
 use Rattle.p4_expr.specs.Expressions.{SpellsLevel, SpellsPrefixed, SpellsPrimary, SpellsExpr, prefixed, stronger, binary, primary, unary, cast, number, name, truth, place, is_valid, bracketed, hash, slice}
 use Rattle.p4_expr.specs.GoesOn.{EndsIndex}
 use Rattle.p4_expr.proofs.PartSpelling.{ends_index, name_no_number, number_there}

@@ -1,4 +1,4 @@
-use Rattle.std.proofs.Common.{◌≡◌, ◌≤◌, ℕ, List, [], ◌∷◌, ◌++◌, All, ap, codes, map, refl, sym, subst, ◌∙◌}
+use Rattle.std.proofs.Common.{◌≡◌, [], ◌∷◌, ◌++◌, ap, codes, map, refl, subst, ◌∙◌}
 use Rattle.std.proofs.lemmas.List.{map-append}
 use Rattle.std.proofs.lemmas.List.Elements.{All-cons, All-nil, All-push}
 use Rattle.elastic_ast.specs.Seen.{seen_expr}
@@ -9,7 +9,6 @@ use Rattle.spelling.proofs.Only.{after, after_one, begins_first, not_there, regr
 use Rattle.spelling.proofs.Taking.{first_one, later_more, may, takes_both}
 use Rattle.spelling.proofs.Whole.{first_of, left_first, left_more, none_left, one_left}
 use Rattle.p4_expr.specs.Expressions.{HasFewOperators, SpellsExpr}
-use Rattle.p4_expr.specs.GoesOn.{expression_signs}
 use Rattle.p4_statements.proofs.Arguments.{args_follow, few_at, no_comma}
 use Rattle.p4_statements.proofs.calls.expressions.Goals as goal
 

@@ -1,4 +1,4 @@
-use Rattle.std.proofs.Common.{◌≤◌, ℕ, List, All, codes, length}
+use Rattle.std.proofs.Common.{ℕ, List, All, codes, length}
 use Rattle.elastic_ast.specs.Seen.{seen_exprs}
 use Rattle.elastic_ast.specs.Tree.{PlainExpr}
 use Rattle.spelling.specs.Words.{Word}

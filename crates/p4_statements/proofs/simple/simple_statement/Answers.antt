@@ -1,18 +1,7 @@
-use Rattle.std.proofs.Common.{ap, codes, refl, sym, subst, ◌∙◌}
-use Rattle.std.proofs.lemmas.List.Elements.{All-cons, All-head, All-nil, All-tail}
-use Rattle.elastic_ast.specs.Seen.{seen_expr, seen_exprs}
-use Rattle.elastic_ast.specs.SeenLaws.{seen_stmt-apply, seen_stmt-assign, seen_stmt-call, seen_stmt-read, seen_stmt-valid, seen_stmt-write}
-use Rattle.elastic_ast.specs.Tree.{PlainExpr, PlainStmt}
-use Rattle.spelling.specs.Grammar.{◌⨟◌, Sign}
+use Rattle.std.proofs.Common.{codes, refl}
 use Rattle.spelling.specs.Reading.{Takes, IsReading, ahead}
-use Rattle.spelling.proofs.Only.{after, after_one, alone, begins, begins_first, ends_sign, named_same, regroup, same_end, split, wants, wants_name, wants_one}
-use Rattle.spelling.proofs.Taking.{may, may_takes, takes_both, takes_bracketed, takes_may}
-use Rattle.spelling.proofs.Limits.{answer_reading, inside, inside_then, opens_or, or_answers, or_as, want_or}
-use Rattle.p4_expr.specs.Expressions.{HasFewOperators, SpellsExpr}
-use Rattle.p4_expr.specs.GoesOn.{expression_signs}
-use Rattle.p4_expr.proofs.PartSpelling.{ends_index}
 use Rattle.p4_statements.specs.Statements.{SpellsPlain}
-use Rattle.p4_statements.specs.Reading.{HasFew, SpellsSimple}
+use Rattle.p4_statements.specs.Reading.{HasFew}
 use Rattle.std.proofs.Common.{◌≤◌, drop, inl, inr}
 use Rattle.elastic_ast.specs.Seen.{seen_stmt}
 use Rattle.spelling.proofs.Limits.{reading_as}

@@ -1,20 +1,20 @@
-use Rattle.std.proofs.Common.{◌≡◌, ◌≤◌, ◌<◌, ◌+◌, ◌-◌, ℕ, suc, Bool, true, false, List, [], ◌∷◌, ◌++◌, ap, arith, codes, inl, inr, map, refl, sym, subst, ◌∙◌, add-one}
+use Rattle.std.proofs.Common.{◌≡◌, ◌-◌, suc, true, false, [], ◌∷◌, ◌++◌, ap, arith, codes, inl, inr, map, refl, sym, subst, ◌∙◌}
 use Rattle.std.proofs.lemmas.Bool.{false≢true}
 use Rattle.std.proofs.lemmas.List.{map-append}
 use Rattle.std.proofs.lemmas.List.Elements.{All-append, All-cons}
 use Rattle.elastic_ast.specs.Seen.{joined, seen_expr, seen_stmt, seen_stmts}
 use Rattle.elastic_ast.specs.SeenLaws.{seen_stmt-block, seen_stmt-for, seen_stmt-if, seen_stmt-if_else}
-use Rattle.elastic_ast.specs.Tree.{PlainExpr, PlainStmt, PlainStmts}
-use Rattle.spelling.specs.Grammar.{Begins, Bracketed, IsReserved, IsSign}
-use Rattle.spelling.specs.Reading.{ahead, IsReading, Takes}
-use Rattle.spelling.proofs.Limits.{inside, opens_or, or_answers, or_as, want_or}
-use Rattle.spelling.proofs.Only.{after, after_one, alone, begins, begins_first, not_there, same_end, split, wants, wants_one}
+use Rattle.elastic_ast.specs.Tree.{PlainStmt, PlainStmts}
+use Rattle.spelling.specs.Grammar.{Begins, IsReserved, IsSign}
+use Rattle.spelling.specs.Reading.{ahead, Takes}
+use Rattle.spelling.proofs.Limits.{inside, opens_or, or_answers, or_as}
+use Rattle.spelling.proofs.Only.{after, after_one, begins, begins_first, not_there, same_end, split, wants}
 use Rattle.spelling.proofs.Taking.{each_more, may, may_takes, takes_as, takes_both, takes_bracketed}
 use Rattle.spelling.proofs.Whole.{left_more, none_left, one_left}
 use Rattle.p4_expr.specs.Expressions.{HasFewOperators}
 use Rattle.p4_statements.specs.ExpressionsIn.{expressions_of, expressions_of_all}
 use Rattle.p4_statements.specs.Statements.{SpellsBranch, SpellsStmt, SpellsStmts}
-use Rattle.p4_statements.specs.Reading.{EndsStmt, HasFew, HaveFew, SpellsSimple, TakesToEnd}
+use Rattle.p4_statements.specs.Reading.{HasFew, HaveFew, SpellsSimple}
 use Rattle.p4_statements.proofs.Ahead.{if_ok_as}
 use Rattle.p4_statements.proofs.Forms.{Braces, alone_there, block_of, braces_begin, braces_there, branch_of, closed_end, else_of, for_of, if_of, is_block, is_for, is_if, is_simple, no_bare, one_less, one_of, simple_of, stmt_no_closing}
 use Rattle.p4_statements.proofs.Lists.{SpellsAny, all_front, any_end, else_few, few_next, few_push, if_few, joined_listed, list_stmts, listed, no_else_follows, of_any, take_stmts}
