@@ -6,6 +6,8 @@ mod grammar_examples;
 mod grammar_laws;
 mod parsing;
 mod states;
+#[cfg(test)]
+mod tests;
 
 pub use grammar_examples::{
     block_of_a_stage_is_one_statement, conditions_need_a_depth_of_their_number,
