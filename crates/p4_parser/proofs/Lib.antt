@@ -11,3 +11,6 @@ pub mod DeclarationTrees
 pub mod Cutting
 pub mod WorkedTrees
 pub mod DeclForms
+pub mod StateSpelling
+pub mod ActionSpelling
+pub mod ControlSpelling

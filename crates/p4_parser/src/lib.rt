@@ -1,6 +1,8 @@
 //! The parser: from the tokens of a text to the tree of the program that they spell.
 #![tactic(auto)]
 
+mod actions;
+mod cases;
 mod controls;
 mod grammar_examples;
 mod grammar_laws;

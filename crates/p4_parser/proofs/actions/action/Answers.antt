@@ -1,0 +1,49 @@
+use Rattle.std.proofs.Common.{codes, refl}
+use Rattle.elastic_ast.specs.Seen.{seen_action}
+use Rattle.spelling.proofs.Limits.{or_answers, or_as, want_or}
+use Rattle.spelling.proofs.Only.{after, after_one, begins_bracketed, named_same, split, wants, wants_name, wants_one}
+use Rattle.spelling.proofs.Taking.{may_takes, takes_both}
+use Rattle.p4_parser.proofs.ActionSpelling.{same_action}
+use Rattle.p4_parser.proofs.actions.action.Goals as goal
+
+pub returns-clause-taken : goal.returns-clause-taken
+returns-clause-taken c = takes_both c.in_ok-reserved.ensures.taken (takes_both c.in_ok-name.ensures.taken (may_takes c.in_ok-index.ensures.taken (takes_both c.in_ok-params.ensures.taken c.in_ok-body.ensures.taken)))
+
+pub returns-in_err-reserved-clause-only : goal.returns-in_err-reserved-clause-only
+returns-in_err-reserved-clause-only c = λ more action rest m.
+    or_answers _ _ _ _ _ _ c.from_residual.result c.from_residual.ensures.1 (want_or _ _ (wants_one _ _ m c.in_err-reserved.ensures.refused))
+
+pub returns-in_err-name-clause-only : goal.returns-in_err-name-clause-only
+returns-in_err-name-clause-only c = λ more action rest m.
+    let m1 = after_one m c.in_ok-reserved.ensures.taken in
+    or_answers _ _ _ _ _ _ c.from_residual-in_err-name.result c.from_residual-in_err-name.ensures.1 (want_or _ _ (wants_name _ _ m1 c.in_err-name.ensures.refused))
+
+pub returns-in_err-index-clause-only : goal.returns-in_err-index-clause-only
+returns-in_err-index-clause-only c = λ more action rest m.
+    let m1 = after_one m c.in_ok-reserved.ensures.taken in
+    let m2 = after_one m1 c.in_ok-name.ensures.taken in
+    or_answers _ _ _ _ _ _ c.from_residual-in_err-index.result c.from_residual-in_err-index.ensures.1 (wants m2 (λ b f s. or_as _ _ _ (λ few. few.0) (c.in_err-index.ensures.only more action.index b f (begins_bracketed (codes "(") (codes ")") more _ (split s).first))))
+
+pub returns-in_err-params-clause-only : goal.returns-in_err-params-clause-only
+returns-in_err-params-clause-only c = λ more action rest m.
+    let m1 = after_one m c.in_ok-reserved.ensures.taken in
+    let m2 = after_one m1 c.in_ok-name.ensures.taken in
+    let m3 = after m2 (λ b f s. c.in_ok-index.ensures.only more action.index b f (begins_bracketed (codes "(") (codes ")") more _ (split s).first)) in
+    or_answers _ _ _ _ _ _ c.from_residual-in_err-params.result c.from_residual-in_err-params.ensures.1 (wants m3.1 (λ b f s. or_as _ _ _ (λ few. few.0) (c.in_err-params.ensures.only more action.params b f)))
+
+pub returns-in_err-body-clause-only : goal.returns-in_err-body-clause-only
+returns-in_err-body-clause-only c = λ more action rest m.
+    let m1 = after_one m c.in_ok-reserved.ensures.taken in
+    let m2 = after_one m1 c.in_ok-name.ensures.taken in
+    let m3 = after m2 (λ b f s. c.in_ok-index.ensures.only more action.index b f (begins_bracketed (codes "(") (codes ")") more _ (split s).first)) in
+    let m4 = after m3.1 (λ b f s. c.in_ok-params.ensures.only more action.params b f) in
+    or_answers _ _ _ _ _ _ c.from_residual-in_err-body.result c.from_residual-in_err-body.ensures.1 (c.in_err-body.ensures.only more action.body rest m4.1)
+
+pub returns-clause-only : goal.returns-clause-only
+returns-clause-only c = λ more action rest m.
+    let m1 = after_one m c.in_ok-reserved.ensures.taken in
+    let m2 = after_one m1 c.in_ok-name.ensures.taken in
+    let m3 = after m2 (λ b f s. c.in_ok-index.ensures.only more action.index b f (begins_bracketed (codes "(") (codes ")") more _ (split s).first)) in
+    let m4 = after m3.1 (λ b f s. c.in_ok-params.ensures.only more action.params b f) in
+    let m5 = c.in_ok-body.ensures.only more action.body rest m4.1 in
+    (same_action _ action (named_same m1 c.in_ok-name.ensures.taken) m3.0 m4.0 m5.0, m5.1)

@@ -1,0 +1,37 @@
+use Rattle.std.proofs.Common.{[], ap, map, ◌∙◌}
+use Rattle.std.proofs.lemmas.List.Elements.{All-cons, All-nil}
+use Rattle.elastic_ast.specs.Seen.{seen_case, seen_expr}
+use Rattle.elastic_ast.specs.Tree.{PlainNext}
+use Rattle.spelling.proofs.Limits.{want_or, or_as, or_answers}
+use Rattle.spelling.proofs.Only.{after, after_one, wants, wants_one}
+use Rattle.spelling.proofs.Taking.{takes_both}
+use Rattle.p4_expr.specs.Expressions.{HasFewOperators}
+use Rattle.p4_parser.proofs.cases.select.Goals as goal
+
+pub returns-clause-taken : goal.returns-clause-taken
+returns-clause-taken c = takes_both c.in_ok-reserved.ensures.taken (takes_both c.in_ok-of.ensures.taken c.in_ok-cases.ensures.taken)
+
+pub returns-clause-few : goal.returns-clause-few
+returns-clause-few c = All-cons HasFewOperators (seen_expr c.in_ok-of.of) [] c.in_ok-of.ensures.few (All-nil HasFewOperators)
+
+pub returns-in_err-reserved-clause-only : goal.returns-in_err-reserved-clause-only
+returns-in_err-reserved-clause-only c = λ more of cases rest m.
+    or_answers _ _ _ _ _ _ c.from_residual.result c.from_residual.ensures.1 (want_or _ _ (wants_one _ _ m c.in_err-reserved.ensures.refused))
+
+pub returns-in_err-of-clause-only : goal.returns-in_err-of-clause-only
+returns-in_err-of-clause-only c = λ more of cases rest m.
+    let m1 = after_one m c.in_ok-reserved.ensures.taken in
+    or_answers _ _ _ _ _ _ c.from_residual-in_err-of.result c.from_residual-in_err-of.ensures.1 (wants m1 (λ b f s. c.in_err-of.ensures.only more of b f))
+
+pub returns-in_err-cases-clause-only : goal.returns-in_err-cases-clause-only
+returns-in_err-cases-clause-only c = λ more of cases rest m.
+    let m1 = after_one m c.in_ok-reserved.ensures.taken in
+    let m2 = after m1 (λ b f s. c.in_ok-of.ensures.only more of b f) in
+    or_answers _ _ _ _ _ _ c.from_residual-in_err-cases.result c.from_residual-in_err-cases.ensures.1 (or_as _ _ _ (λ few. few.0) (c.in_err-cases.ensures.only more cases rest m2.1))
+
+pub returns-clause-only : goal.returns-clause-only
+returns-clause-only c = λ more of cases rest m.
+    let m1 = after_one m c.in_ok-reserved.ensures.taken in
+    let m2 = after m1 (λ b f s. c.in_ok-of.ensures.only more of b f) in
+    let m3 = c.in_ok-cases.ensures.only more cases rest m2.1 in
+    (ap (λ e. PlainNext.Select e (map seen_case c.in_ok-cases.cases)) m2.0 ∙ ap (PlainNext.Select of) m3.0, m3.1)

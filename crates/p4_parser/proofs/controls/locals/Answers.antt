@@ -1,0 +1,34 @@
+use Rattle.std.proofs.Common.{◌≡◌, [], ◌∷◌, ◌++◌, All, ap, codes, flat_map, map, refl, subst, sym, ◌∙◌, ◌⊎◌}
+use Rattle.std.proofs.lemmas.List.{map-append}
+use Rattle.elastic_ast.specs.Seen.{seen_local}
+use Rattle.spelling.specs.Grammar.{Begins, IsReserved}
+use Rattle.spelling.proofs.Limits.{or_answers, or_as}
+use Rattle.spelling.proofs.Only.{after, not_there, wants}
+use Rattle.spelling.proofs.Taking.{each_more, may}
+use Rattle.spelling.proofs.Whole.{left_more, none_left, one_left}
+use Rattle.p4_expr.specs.Expressions.{HasFewOperators}
+use Rattle.p4_parser.specs.Declarations.{SpellsLocal}
+use Rattle.p4_parser.specs.ExpressionsIn.{expressions_of_local}
+use Rattle.p4_parser.proofs.ControlSpelling.{all_of_next, all_pushed, apply_no_local, local_first}
+use Rattle.p4_parser.proofs.controls.locals.Goals as goal
+
+pub locals-preserved : goal.locals-preserved
+locals-preserved c =
+    let grown : map seen_local c.keep.new.items ≡ map seen_local c.locals.locals ++ seen_local c.in_ok-local.local ∷ [] = ap (map seen_local) c.in_ok-keep.ensures.ok ∙ map-append seen_local c.locals.locals (c.in_ok-local.local ∷ []) in
+    record {
+      taken = rw grown (each_more (SpellsLocal c.args.depth) (map seen_local c.locals.locals) (seen_local c.in_ok-local.local) c.locals.invariant.taken (may c.in_ok-local.ensures.taken));
+      few = rw grown (all_pushed HasFewOperators expressions_of_local (map seen_local c.locals.locals) (seen_local c.in_ok-local.local) c.locals.invariant.few c.in_ok-local.ensures.few);
+      only = λ more all rest m named.
+          let n = one_left (c.locals.invariant.only more all rest m named) (λ e. apply_no_local rest named (subst (λ ws. Begins (IsReserved (codes "action")) ws ⊎ Begins (IsReserved (codes "table")) ws) e (c.locals-test.ensures.0 refl))) in
+          let r = after n.ahead (λ b f s. c.in_ok-local.ensures.only more n.one b f) in
+          left_more n grown r.0 r.1;
+    }
+
+pub returns-in_err-local-clause-only : goal.returns-in_err-local-clause-only
+returns-in_err-local-clause-only c = λ more all rest m named.
+    let n = one_left (c.locals.invariant.only more all rest m named) (λ e. apply_no_local rest named (subst (λ ws. Begins (IsReserved (codes "action")) ws ⊎ Begins (IsReserved (codes "table")) ws) e (c.locals-test.ensures.0 refl))) in
+    or_answers _ _ _ _ _ _ c.from_residual.result c.from_residual.ensures.1 (wants n.ahead (λ b f s. or_as _ _ _ (λ few. (few.0, all_of_next HasFewOperators expressions_of_local (map seen_local c.locals.locals) n.one n.later all n.whole few.1)) (c.in_err-local.ensures.only more n.one b f)))
+
+pub returns-clause-only : goal.returns-clause-only
+returns-clause-only c = λ more all rest m named.
+    none_left (c.locals.invariant.only more all rest m named) (λ one later f. not_there c.locals-test.ensures.1 (local_first more one f))
