@@ -10,10 +10,11 @@ ghost use Rattle.p4_expr.specs.Expressions.{HasFewOperators};
 ghost use Rattle.p4_statements.specs.ExpressionsIn.{expressions_of_all};
 ghost use Rattle.p4_statements.specs.Reading.{HaveFew};
 ghost use Rattle.p4_statements.specs.Statements.{SpellsStmts};
-ghost use Rattle.p4_parser.specs.Declarations.{SpellsControlParameters, SpellsDeclaration, SpellsLastParameters, SpellsLocal};
+ghost use Rattle.p4_parser.specs.Declarations.{SpellsControlParameters, SpellsDeclaration, SpellsLocal};
 ghost use Rattle.p4_parser.specs.ExpressionsIn.{expressions_of_decl, expressions_of_local};
 
 use crate::actions::action;
+use crate::states::last_parameters;
 use elastic_ast::{Decl, Local, Stmt};
 use elx_bits::Items;
 use p4_statements::statements;
@@ -59,21 +60,6 @@ fn parameter_words(reader: &mut Reader<'_>) -> Result<(), SyntaxError>
     reader.fixed_name(b"hdr")?;
     reader.sign(b",")?;
     last_parameters(reader)?;
-    Ok(())
-}
-
-/// `inout meta_t meta, inout std_t std`, with which the parameters of a parser end too.
-pub fn last_parameters(reader: &mut Reader<'_>) -> Result<(), SyntaxError>
-    ensures taken { OnOk result (Takes SpellsLastParameters (ahead reader.old) (ahead reader.new)) }
-    ensures only { (rest : List Word) → MayTake SpellsLastParameters (ahead reader.old) rest → IsAnswer (λ read. read) tt rest (ahead reader.new) result }
-{
-    reader.reserved(b"inout")?;
-    reader.fixed_name(b"meta_t")?;
-    reader.fixed_name(b"meta")?;
-    reader.sign(b",")?;
-    reader.reserved(b"inout")?;
-    reader.fixed_name(b"std_t")?;
-    reader.fixed_name(b"std")?;
     Ok(())
 }
 

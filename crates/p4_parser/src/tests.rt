@@ -96,7 +96,7 @@ symbolic int rows; symbolic int cols; symbolic int ways; symbolic int slots; ass
 const FRAMES: [(Frame, usize); 10] = [
     (ONE_BYTE, 7),
     (COUNT_MIN, 14),
-    (SKETCH_AND_CACHE, 19),
+    (SKETCH_AND_CACHE, 18),
     (
         Frame {
             top: "symbolic int a; symbolic int b; assume(b >= 5); maximize(3*a + 2*b);",
@@ -178,15 +178,36 @@ fn sources_with_a_control_are_read(rt: HostRuntime) -> Result<(), Fail> {
 fn texts_are_read_or_refused_at_a_token(rt: HostRuntime) -> Result<(), Fail> {
     let cases = [
         ("", Ok(0)),
-        ("symbolic int rows; symbolic int cols; assume(rows >= 1 && rows <= 3); assume(cols <= 100); struct meta_t { bit<16>[rows] idx; } maximize(10*rows + cols);", Ok(6)),
-        ("symbolic int a; symbolic int b; struct meta_t { bit<24>[a] x; bit<40>[b] y; } maximize(5*a + 9*b);", Ok(4)),
-        ("parser p(packet_in pkt, out headers_t hdr, inout meta_t meta, inout std_t std) { state start { pkt.extract(hdr.h); transition select (hdr.h.kind) { 0x800: other; 1 &&& 3: accept; _: reject; default: accept; } } state other { transition accept; } }", Ok(1)),
+        (
+            "symbolic int rows; symbolic int cols; assume(rows >= 1 && rows <= 3); assume(cols <= 100); struct meta_t { bit<16>[rows] idx; } maximize(10*rows + cols);",
+            Ok(6),
+        ),
+        (
+            "symbolic int a; symbolic int b; struct meta_t { bit<24>[a] x; bit<40>[b] y; } maximize(5*a + 9*b);",
+            Ok(4),
+        ),
+        (
+            "parser p(packet_in pkt, out headers_t hdr, inout meta_t meta, inout std_t std) { state start { pkt.extract(hdr.h); transition select (hdr.h.kind) { 0x800: other; 1 &&& 3: accept; _: reject; default: accept; } } state other { transition accept; } }",
+            Ok(1),
+        ),
         ("rows;", Err(SyntaxError::NotProgram { token: 0 })),
         ("symbolic int ;", Err(SyntaxError::NotProgram { token: 2 })),
-        ("symbolic int rows", Err(SyntaxError::NotProgram { token: 3 })),
-        ("const bit<8> a = 9w3;", Err(SyntaxError::NotProgram { token: 7 })),
-        ("control c(inout headers_t hdr, inout meta_t meta, inout std_t std) { apply { if (a) b(); else if (c) d(); else { } else ; } }", Err(SyntaxError::NotProgram { token: 45 })),
-        ("control c(inout headers_t hdr, inout meta_t meta, inout std_t std) { table t { key = { } key = { } } apply { } }", Err(SyntaxError::NotProgram { token: 24 })),
+        (
+            "symbolic int rows",
+            Err(SyntaxError::NotProgram { token: 3 }),
+        ),
+        (
+            "const bit<8> a = 9w3;",
+            Err(SyntaxError::NotProgram { token: 7 }),
+        ),
+        (
+            "control c(inout headers_t hdr, inout meta_t meta, inout std_t std) { apply { if (a) b(); else if (c) d(); else { } else ; } }",
+            Err(SyntaxError::NotProgram { token: 38 }),
+        ),
+        (
+            "control c(inout headers_t hdr, inout meta_t meta, inout std_t std) { table t { key = { } key = { } } apply { } }",
+            Err(SyntaxError::NotProgram { token: 23 }),
+        ),
     ];
     for (text, answer) in cases {
         assert_eq!(rt; counted(rt.alloc(), text), answer, "{text}");
@@ -218,7 +239,10 @@ fn nested(alloc: Global, conditions: usize) -> Result<Result<usize, SyntaxError>
 #[test]
 fn conditions_are_read_to_the_depth(rt: HostRuntime) -> Result<(), Fail> {
     assert_eq!(rt; nested(rt.alloc(), 78)?, Ok(7));
-    assert_eq!(rt; nested(rt.alloc(), 79)?, Err(SyntaxError::TooDeep { token: 934 }));
+    assert_eq!(rt;
+        nested(rt.alloc(), 79)?,
+        Err(SyntaxError::TooDeep { token: 934 })
+    );
     Ok(())
 }
 
