@@ -3,7 +3,7 @@ use Rattle.std.proofs.Common.{◌≡◌, ℕ, List, [], ◌∷◌, Option, Some,
 use Rattle.elastic_ast.specs.declared.declarations.Param.{Param}
 use Rattle.elastic_ast.specs.Tree.{PlainAction, PlainStmts}
 use Rattle.spelling.specs.Words.{Word}
-use Rattle.spelling.specs.Grammar.{Grammar, ◌⨟◌, Begins, Bracketed, Commas, Each, IsSign, Named, Reserved, Separated, Sign}
+use Rattle.spelling.specs.Grammar.{Grammar, ◌⨟◌, Begins, Bracketed, Commas, IsSign, Named, Reserved, Separated, Sign}
 use Rattle.spelling.specs.Reading.{MayTake, Takes}
 use Rattle.spelling.proofs.Only.{begins, begins_bracketed, begins_first, empty_same, not_sign, of_where, other_text, regroup, reserved_no_sign, same_end, split}
 use Rattle.spelling.proofs.Peeling.{past_none}

@@ -1,5 +1,4 @@
-use Rattle.std.proofs.Common.{codes, refl}
-use Rattle.elastic_ast.specs.Seen.{seen_action}
+use Rattle.std.proofs.Common.{codes}
 use Rattle.spelling.proofs.Limits.{or_answers, or_as, want_or}
 use Rattle.spelling.proofs.Only.{after, after_one, begins_bracketed, named_same, split, wants, wants_name, wants_one}
 use Rattle.spelling.proofs.Taking.{may_takes, takes_both}

@@ -1,8 +1,6 @@
-use Rattle.std.proofs.Common.{◌≡◌, ℕ, List, ◌++◌, ap, codes, flat_map, map, ◌∙◌}
+use Rattle.std.proofs.Common.{codes, flat_map, map}
 use Rattle.std.proofs.lemmas.List.Elements.{All-append}
 use Rattle.elastic_ast.specs.Seen.{seen_local, seen_stmts}
-use Rattle.elastic_ast.specs.Tree.{PlainLocal, PlainStmts}
-use Rattle.spelling.specs.Grammar.{Grammar, ◌⨟◌, Bracketed, Each, Named}
 use Rattle.spelling.proofs.Limits.{opens_or, or_answers, or_as, past_opening, want_or}
 use Rattle.spelling.proofs.Only.{after, alone, begins_first, regroup, same_end, wants, wants_one}
 use Rattle.spelling.proofs.Taking.{may, may_takes, takes_bracketed}
