@@ -3,7 +3,7 @@ use Rattle.std.proofs.Common.{◌≡◌, ℕ, ◌≤◌, Bool, true, false, List
 use Rattle.std.specs.Prelude.{◌⊎◌, Result, Ok, Err, All}
 use Rattle.std.specs.List.{list_all}
 use Rattle.std.proofs.lemmas.Bool.{and_parts}
-use Rattle.std.proofs.lemmas.List.Elements.{All-get_or}
+use Rattle.std.proofs.lemmas.List.Elements.{All-nil, All-cons, All-get_or}
 use Rattle.std.proofs.lemmas.Option.{get_or_from_slice_get, slice_get_within}
 use Rattle.elastic_ast.specs.declared.declarations.Decl.{Decl}
 use Rattle.elastic_ast.specs.declared.declarations.Program.{Program}
@@ -109,8 +109,8 @@ refused_program text tokens given tree checked.NotYet why read broken is =
 refused_program text tokens given tree checked.Memory why read broken is = absurd (cc is)
 
 all_begun : (decls : List PlainDecl) → list_all is_begun decls ≡ true → All (λ decl. is_begun decl ≡ true) decls
-all_begun [] h = tt
-all_begun (decl ∷ decls) h = let both = and_parts (is_begun decl) (list_all is_begun decls) h in (both.0, all_begun decls both.1)
+all_begun [] h = All-nil (λ decl. is_begun decl ≡ true)
+all_begun (decl ∷ decls) h = let both = and_parts (is_begun decl) (list_all is_begun decls) h in All-cons (λ decl. is_begun decl ≡ true) decl decls both.0 (all_begun decls both.1)
 
 -- where it is
 pub only_program : (text : List ℕ) (tokens given : List Token) (tree : Program) (taken : List Decl) → IsParsed text tokens given tree → taken ≡ tree.decls → Typed false (seen_program tree) → list_all is_begun (seen_decls taken) ≡ true
