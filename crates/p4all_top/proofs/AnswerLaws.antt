@@ -6,6 +6,8 @@ use Rattle.elastic_ast.specs.Tree.{Name, PlainProgram}
 use Rattle.elastic_ast.specs.Sums.{symbols_of}
 use Rattle.elx_io.specs.Files.{Files, bytes_at}
 use Rattle.target_desc.specs.declared.target.Target.{Target}
+use Rattle.p4all_top.specs.declared.reading.Refusal.{Refusal}
+use Rattle.p4all_top.specs.declared.reading.Refusal.TheVariants as refusal
 use Rattle.p4all_top.specs.declared.choosing.Choice.{Choice}
 use Rattle.p4all_top.specs.declared.choosing.Choice.TheVariants as choice
 use Rattle.p4all_top.specs.declared.sizing.Answer.{Answer}
@@ -15,36 +17,48 @@ use Rattle.p4all_top.specs.Choice.{IsChoice}
 use Rattle.p4all_top.specs.Description.{IsTargetFound, IsDescriptionFound}
 use Rattle.p4all_top.specs.Reading.{IsFileRead}
 use Rattle.p4all_top.specs.Shown.{FitsSymbols, ShowsChoice}
-use Rattle.p4all_top.specs.Source.{IsProgramFound, IsSourceFound}
+use Rattle.p4all_top.specs.Source.{IsRefusedBy, IsProgramFound, IsSourceRefused, IsSourceFound}
 
-source_in : (bytes text : List ℕ) (found : Option (List Decl)) → bytes ≡ text → length text ≤ 16777216 → IsProgramFound bytes found → IsSourceFound text found
-source_in bytes text None e short none = inr (subst (λ (z : List ℕ). IsProgramFound z None) e none)
-source_in bytes text (Some decls) e short found = record { short = short; program = subst (λ (z : List ℕ). IsProgramFound z (Some decls)) e found }
+source_refused : (text : List ℕ) (why : Refusal) → length text ≤ 16777216 → IsRefusedBy text why → IsSourceRefused text why
+source_refused text refusal.LongSource short bad = absurd bad
+source_refused text refusal.LongTarget short bad = absurd bad
+source_refused text (refusal.Byte at) short bad = (short, bad)
+source_refused text (refusal.Number at) short bad = (short, bad)
+source_refused text (refusal.Comment at) short bad = (short, bad)
+source_refused text (refusal.Syntax token) short bad = (short, bad)
+source_refused text (refusal.Deep token) short bad = (short, bad)
+source_refused text refusal.NotYet short bad = (short, bad)
+
+source_in : (bytes text : List ℕ) (found : Result (List Decl) Refusal) → bytes ≡ text → length text ≤ 16777216 → IsProgramFound bytes found → IsSourceFound text found
+source_in bytes text (Err why) e short bad = source_refused text why short (subst (λ (z : List ℕ). IsRefusedBy z why) e bad)
+source_in bytes text (Ok decls) e short found = record { short = short; program = subst (λ (z : List ℕ). IsProgramFound z (Ok decls)) e found }
 
 -- what is found in the bytes of a source that isn't too long
-pub source_found : (holds : Option Files) (name bytes given : List ℕ) (found : Option (List Decl)) → IfSome holds (λ files. IsFileRead 16777216 (bytes_at files name) (Some bytes)) → given ≡ bytes → IsProgramFound given found
+pub source_found : (holds : Option Files) (name bytes given : List ℕ) (found : Result (List Decl) Refusal) → IfSome holds (λ files. IsFileRead 16777216 (bytes_at files name) (Some bytes)) → given ≡ bytes → IsProgramFound given found
     → IfSome holds (λ files. IsSourceFound (bytes_at files name) found)
 source_found None name bytes given found read e is = tt
 source_found (Some files) name bytes given found read e is = source_in given (bytes_at files name) found (e ∙ read.0) read.1 is
 
-target_in : (bytes text : List ℕ) (found : Option Target) → bytes ≡ text → length text ≤ 65536 → IsTargetFound bytes found → IsDescriptionFound text found
-target_in bytes text None e short none = inr (subst (λ (z : List ℕ). IsTargetFound z None) e none)
-target_in bytes text (Some target) e short found = record { short = short; described = subst (λ (z : List ℕ). IsTargetFound z (Some target)) e found }
+-- the target that is found in the bytes of a description that isn't too long
+pub target_found : (holds : Option Files) (name bytes given : List ℕ) (target : Target) → IfSome holds (λ files. IsFileRead 65536 (bytes_at files name) (Some bytes)) → given ≡ bytes → IsTargetFound given (Some target)
+    → IfSome holds (λ files. IsDescriptionFound (bytes_at files name) (Ok target))
+target_found None name bytes given target read e is = tt
+target_found (Some files) name bytes given target read e is = record { short = read.1; described = subst (λ (z : List ℕ). IsTargetFound z (Some target)) (e ∙ read.0) is }
 
--- what is found in the bytes of a description that isn't too long
-pub target_found : (holds : Option Files) (name bytes given : List ℕ) (found : Option Target) → IfSome holds (λ files. IsFileRead 65536 (bytes_at files name) (Some bytes)) → given ≡ bytes → IsTargetFound given found
-    → IfSome holds (λ files. IsDescriptionFound (bytes_at files name) found)
-target_found None name bytes given found read e is = tt
-target_found (Some files) name bytes given found read e is = target_in given (bytes_at files name) found (e ∙ read.0) read.1 is
+-- or that there is none
+pub no_target_found : (holds : Option Files) (name bytes given : List ℕ) → IfSome holds (λ files. IsFileRead 65536 (bytes_at files name) (Some bytes)) → given ≡ bytes → IsTargetFound given None
+    → IfSome holds (λ files. IsDescriptionFound (bytes_at files name) (Err refusal.NotYet))
+no_target_found None name bytes given read e is = tt
+no_target_found (Some files) name bytes given read e is = (read.1, subst (λ (z : List ℕ). IsTargetFound z None) (e ∙ read.0) is)
 
 -- a file that is too long isn't taken
-pub source_long : (holds : Option Files) (name : List ℕ) → IfSome holds (λ files. IsFileRead 16777216 (bytes_at files name) None) → IfSome holds (λ files. IsSourceFound (bytes_at files name) None)
+pub source_long : (holds : Option Files) (name : List ℕ) → IfSome holds (λ files. IsFileRead 16777216 (bytes_at files name) None) → IfSome holds (λ files. IsSourceFound (bytes_at files name) (Err refusal.LongSource))
 source_long None name read = tt
-source_long (Some files) name read = inl read
+source_long (Some files) name read = read
 
-pub target_long : (holds : Option Files) (name : List ℕ) → IfSome holds (λ files. IsFileRead 65536 (bytes_at files name) None) → IfSome holds (λ files. IsDescriptionFound (bytes_at files name) None)
+pub target_long : (holds : Option Files) (name : List ℕ) → IfSome holds (λ files. IsFileRead 65536 (bytes_at files name) None) → IfSome holds (λ files. IsDescriptionFound (bytes_at files name) (Err refusal.LongTarget))
 target_long None name read = tt
-target_long (Some files) name read = inl read
+target_long (Some files) name read = read
 
 there : (names : List Name) (place : ℕ) → place < length names → (name : Name) × (slice_get names place ≡ Some name)
 there [] place h = absurd (omega arith)

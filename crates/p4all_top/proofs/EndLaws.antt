@@ -6,15 +6,18 @@ use Rattle.elastic_ast.specs.Tree.{PlainProgram}
 use Rattle.elastic_ast.specs.Sums.{symbols_of}
 use Rattle.target_desc.specs.declared.target.Target.{Target}
 use Rattle.target_desc.specs.TargetText.{IsTargetText}
+use Rattle.p4all_top.specs.declared.reading.Refusal.{Refusal}
+use Rattle.p4all_top.specs.declared.reading.Refusal.TheVariants as refusal
 use Rattle.p4all_top.specs.declared.status.Status.{Status}
 use Rattle.p4all_top.specs.declared.status.Status.TheVariants as status
-use Rattle.p4all_top.specs.Answer.{IsAnswerFor, IsSizeAnswer}
+use Rattle.p4all_top.specs.Answer.{IsAnswerFor, IsNotTaken, IsSizeAnswer}
 use Rattle.p4all_top.specs.Choice.{bound_of, AreBoundsOf, IsBounded, IsTooLarge, IsUnbounded}
 use Rattle.p4all_top.specs.Commands.{IsShown}
-use Rattle.p4all_top.specs.Description.{IsDescription, IsNoDescription}
+use Rattle.p4all_top.specs.Description.{IsDescription, IsNoDescription, IsTargetRefused}
 use Rattle.p4all_top.specs.Ending.{MustEnd, EndsOn, EndsBy}
 use Rattle.p4all_top.specs.Listing.{points_in}
-use Rattle.p4all_top.specs.Source.{IsProgram, IsSource, IsNoSource}
+use Rattle.p4all_top.specs.Source.{IsProgram, IsNoSource}
+use Rattle.p4all_top.proofs.SourceLaws.{refused_source}
 
 must : (expected ended : Status) → ended ≡ expected → MustEnd expected ended
 must expected status.Memory e = tt
@@ -83,6 +86,12 @@ no_target : (text : List ℕ) (on : Target) → IsDescription text on → IsNoDe
 no_target text on taken (inl long) = absurd (let s = taken.short in omega arith)
 no_target text on taken (inr none) = none on taken.described
 
+-- a description that is refused isn't taken
+pub refused_target : (text : List ℕ) (why : Refusal) → IsTargetRefused text why → IsNoDescription text
+refused_target text refusal.LongTarget bad = inl bad
+refused_target text refusal.NotYet bad = inr bad.1
+refused_target text _ bad = absurd bad
+
 -- what a source and a description make of the end
 pub ends_by : (source target : List ℕ) (ended : Status) (printed : List ℕ) → IsSizeAnswer source target ended printed → EndsBy source target ended
 ends_by source target ended printed (inl both) = record {
@@ -97,12 +106,12 @@ ends_by source target ended printed (inl both) = record {
 ends_by source target ended printed (inr refuses) = record {
   no_source = λ bad. must status.Refused ended refuses.status_is;
   no_target = λ bad. must status.Refused ended refuses.status_is;
-  both = λ decls on short program described. absurd (taken decls on short program described refuses.cause);
+  both = λ decls on short program described. absurd (taken refuses.why decls on short program described refuses.cause);
 }
   where
-    taken : (decls : PlainProgram) (on : Target) → length source ≤ 16777216 → IsProgram source decls → IsDescription target on → IsNoSource source ⊎ ((other : PlainProgram) × IsSource source other × IsNoDescription target) → ⊥
-    taken decls on short program described (inl bad) = no_source source decls short program bad
-    taken decls on short program described (inr bad) = no_target target on described bad.2
+    taken : (why : Refusal) (decls : PlainProgram) (on : Target) → length source ≤ 16777216 → IsProgram source decls → IsDescription target on → IsNotTaken source target why → ⊥
+    taken why decls on short program described (inl bad) = no_source source decls short program (refused_source source why bad)
+    taken why decls on short program described (inr bad) = no_target target on described (refused_target target why bad.2)
 
 -- a run that anything may end
 pub may_end : (source target : List ℕ) (ended : Status) → ((expected : Status) → MustEnd expected ended) → EndsBy source target ended

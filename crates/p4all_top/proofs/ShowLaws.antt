@@ -5,19 +5,20 @@ use Rattle.std.specs.declared.alloc.AllocError.{AllocError}
 use denote.Bor.{Bor}
 use Rattle.elx_io.specs.Appends.{AppendsFront}
 use Rattle.elx_io.specs.Files.{Files, bytes_at}
+use Rattle.p4all_top.specs.declared.reading.Refusal.{Refusal}
 use Rattle.p4all_top.specs.declared.status.Status.{Status}
 use Rattle.p4all_top.specs.declared.status.Status.TheVariants as status
 use Rattle.p4all_top.specs.declared.sizing.Answer.{Answer}
 use Rattle.p4all_top.specs.declared.stopping.Stop.{Stop}
 use Rattle.p4all_top.specs.Stopping.{stopped}
-use Rattle.p4all_top.specs.Answer.{IsAnswerFor, IsNotTaken, IsSizeAnswer, notyet_text}
+use Rattle.p4all_top.specs.Answer.{IsAnswerFor, IsNotTaken, IsSizeAnswer, refusal_text}
 use Rattle.p4all_top.proofs.EndLaws.{ends_shown, may_end, no_source}
 use Rattle.std.proofs.lemmas.List.{take_all}
 use Rattle.elastic_ast.specs.Tree.{PlainProgram}
 use Rattle.target_desc.specs.declared.target.Target.{Target}
-use Rattle.p4all_top.specs.Description.{IsDescription, IsNoDescription}
+use Rattle.p4all_top.specs.Description.{IsDescription, IsTargetRefused}
 use Rattle.p4all_top.specs.Ending.{MustEnd, EndsBy}
-use Rattle.p4all_top.specs.Source.{IsSource, IsNoSource}
+use Rattle.p4all_top.specs.Source.{IsSource, IsNoSource, IsSourceRefused}
 use Rattle.p4all_top.specs.Commands.{texts_of, text_at, IsSizeEnd, IsShown, PrintsFront, PrintsSizes, TellsSizes}
 
 -- the two words after the command
@@ -72,16 +73,16 @@ tells texts (Some files) source target lines ended shown (Some before) (Some now
     subst (λ (z : List ℕ). PrintsSizes files z (text_at texts 1) shown before now) e (subst (λ (z : List ℕ). PrintsSizes files source z shown before now) f (prints files source target lines before now ended shown end a s))
 
 -- the cause of a refusal of the source
-pub not_source : (holds : Option Files) (source target : List ℕ) → IfSome holds (λ files. IsNoSource (bytes_at files source)) → IfSome holds (λ files. IsNotTaken (bytes_at files source) (bytes_at files target))
-not_source None source target h = tt
-not_source (Some files) source target h = inl h
+pub not_source : (holds : Option Files) (source target : List ℕ) (why : Refusal) → IfSome holds (λ files. IsSourceRefused (bytes_at files source) why) → IfSome holds (λ files. IsNotTaken (bytes_at files source) (bytes_at files target) why)
+not_source None source target why h = tt
+not_source (Some files) source target why h = inl h
 
 -- and of one of the target's description, which is read later
-pub not_target : (holds later : Option Files) (source target : List ℕ) (decls : PlainProgram) → later ≡ holds → IfSome holds (λ files. IsSource (bytes_at files source) decls) → IfSome later (λ files. IsNoDescription (bytes_at files target))
-    → IfSome holds (λ files. IsNotTaken (bytes_at files source) (bytes_at files target))
-not_target holds later source target decls e taken bad = by holds taken (subst (λ (z : Option Files). IfSome z (λ files. IsNoDescription (bytes_at files target))) e bad)
+pub not_target : (holds later : Option Files) (source target : List ℕ) (decls : PlainProgram) (why : Refusal) → later ≡ holds → IfSome holds (λ files. IsSource (bytes_at files source) decls)
+    → IfSome later (λ files. IsTargetRefused (bytes_at files target) why) → IfSome holds (λ files. IsNotTaken (bytes_at files source) (bytes_at files target) why)
+not_target holds later source target decls why e taken bad = by holds taken (subst (λ (z : Option Files). IfSome z (λ files. IsTargetRefused (bytes_at files target) why)) e bad)
   where
-    by : (holds : Option Files) → IfSome holds (λ files. IsSource (bytes_at files source) decls) → IfSome holds (λ files. IsNoDescription (bytes_at files target)) → IfSome holds (λ files. IsNotTaken (bytes_at files source) (bytes_at files target))
+    by : (holds : Option Files) → IfSome holds (λ files. IsSource (bytes_at files source) decls) → IfSome holds (λ files. IsTargetRefused (bytes_at files target) why) → IfSome holds (λ files. IsNotTaken (bytes_at files source) (bytes_at files target) why)
     by None s t = tt
     by (Some files) s t = inr (decls, s, t)
 
@@ -89,14 +90,15 @@ abbrev IsFound : Option Files → List ℕ → List ℕ → Result Answer Stop �
 IsFound holds source target r = IfOk r (λ answer. IfSome holds (λ files. IsSizeAnswer (bytes_at files source) (bytes_at files target) answer.status answer.lines))
 
 -- a refusal
-pub refused : (found : Result Answer AllocError) (r : Result Answer Stop) (holds : Option Files) (source target : List ℕ) → r ≡ stopped found → IfOk found (λ answer. answer.status ≡ status.Refused) → IfOk found (λ answer. answer.lines ≡ notyet_text)
-    → IfSome holds (λ files. IsNotTaken (bytes_at files source) (bytes_at files target)) → IfOk r (λ answer. IfSome holds (λ files. IsSizeAnswer (bytes_at files source) (bytes_at files target) answer.status answer.lines))
-refused (Ok answer) r holds source target e s l cause = subst (λ (z : Result Answer Stop). IsFound holds source target z) (sym e) (by holds cause)
+pub refused : (found : Result Answer AllocError) (r : Result Answer Stop) (holds : Option Files) (source target : List ℕ) (why : Refusal) → r ≡ stopped found → IfOk found (λ answer. answer.status ≡ status.Refused)
+    → IfOk found (λ answer. answer.lines ≡ refusal_text why) → IfSome holds (λ files. IsNotTaken (bytes_at files source) (bytes_at files target) why)
+    → IfOk r (λ answer. IfSome holds (λ files. IsSizeAnswer (bytes_at files source) (bytes_at files target) answer.status answer.lines))
+refused (Ok answer) r holds source target why e s l cause = subst (λ (z : Result Answer Stop). IsFound holds source target z) (sym e) (by holds cause)
   where
-    by : (holds : Option Files) → IfSome holds (λ files. IsNotTaken (bytes_at files source) (bytes_at files target)) → IfSome holds (λ files. IsSizeAnswer (bytes_at files source) (bytes_at files target) answer.status answer.lines)
+    by : (holds : Option Files) → IfSome holds (λ files. IsNotTaken (bytes_at files source) (bytes_at files target) why) → IfSome holds (λ files. IsSizeAnswer (bytes_at files source) (bytes_at files target) answer.status answer.lines)
     by None cause = tt
-    by (Some files) cause = inr record { cause = cause; status_is = s; lines = l }
-refused (Err x) r holds source target e s l cause = subst (λ (z : Result Answer Stop). IsFound holds source target z) (sym e) tt
+    by (Some files) cause = inr record { why = why; cause = cause; status_is = s; lines = l }
+refused (Err x) r holds source target why e s l cause = subst (λ (z : Result Answer Stop). IsFound holds source target z) (sym e) tt
 
 -- an answer for a program and a target
 pub answered : (found : Result Answer AllocError) (r : Result Answer Stop) (holds later : Option Files) (source target : List ℕ) (decls : PlainProgram) (on : Target) → later ≡ holds → r ≡ stopped found

@@ -1,11 +1,12 @@
--- What program a text spells, from what its readers answered.
-use Rattle.std.proofs.Common.{◌≡◌, ◌≢◌, ℕ, zero, suc, true, false, List, [], ◌∷◌, Some, refl, sym, ap, ◌∙◌, subst, true≢false}
-use Rattle.std.specs.Prelude.{Result, Ok, Err, slice_get}
+-- What program a text spells, or why it spells none, from what its readers answered.
+use Rattle.std.proofs.Common.{◌≡◌, ℕ, ◌≤◌, Bool, true, false, List, [], ◌∷◌, length, Some, refl, sym, ap, ◌∙◌, subst, true≢false, arith, inl, inr}
+use Rattle.std.specs.Prelude.{◌⊎◌, Result, Ok, Err, All}
 use Rattle.std.specs.List.{list_all}
+use Rattle.std.proofs.lemmas.Bool.{and_parts}
+use Rattle.std.proofs.lemmas.List.Elements.{All-nil, All-cons, All-get_or}
+use Rattle.std.proofs.lemmas.Option.{get_or_from_slice_get, slice_get_within}
 use Rattle.elastic_ast.specs.declared.declarations.Decl.{Decl}
 use Rattle.elastic_ast.specs.declared.declarations.Program.{Program}
-use Rattle.elastic_ast.specs.declared.declarations.UtilTerm.{UtilTerm}
-use Rattle.elastic_ast.specs.declared.declarations.UtilTerm.TheVariants as util
 use Rattle.elastic_ast.specs.Seen.{seen_decls, seen_program}
 use Rattle.elastic_ast.specs.Tree.{PlainDecl, PlainProgram}
 use Rattle.elastic_ast.specs.Typed.{Typed}
@@ -15,86 +16,148 @@ use Rattle.p4_lexer.specs.declared.token.Token.{Token}
 use Rattle.p4_lexer.specs.BadPlaces.{IsBad}
 use Rattle.p4_lexer.specs.Tokens.{TokensOf}
 use Rattle.p4_lexer.proofs.OneReading.{one_list, bad_has_none}
-use Rattle.p4_parser.specs.Grammar.{SpellsLaterUtility, SpellsUtility, SpellsDecl, Spells}
+use Rattle.p4_parser.specs.Declarations.{SpellsProgram}
+use Rattle.p4_parser.specs.ProgramOf.{IsProgramOf}
+use Rattle.p4_parser.specs.Reading.{ProgramHasFew}
 use Rattle.spelling.specs.declared.error.SyntaxError.{SyntaxError}
-use Rattle.spelling.specs.declared.error.SyntaxError.TheVariants as syntax_error
-use Rattle.spelling.specs.Grammar.{Each}
-use Rattle.spelling.specs.Reading.{IsRead}
-use Rattle.spelling.specs.Words.{Word, words}
+use Rattle.spelling.specs.declared.error.SyntaxError.TheVariants as parsed
+use Rattle.spelling.specs.Reading.{IsReadWithin, NamesAtMost}
+use Rattle.spelling.specs.Words.{words}
 use Rattle.width_check.specs.declared.checking.CheckError.{CheckError}
 use Rattle.width_check.specs.declared.checking.CheckError.TheVariants as checked
-use Rattle.width_check.specs.Begun.{is_begun, is_linear}
+use Rattle.width_check.specs.Begun.{is_begun, HasOther}
 use Rattle.width_check.specs.Broken.{IsBroken}
-use Rattle.p4all_top.specs.Source.{IsProgram, HasNoProgram, IsOnlyProgram}
+use Rattle.p4all_top.specs.declared.reading.Refusal.{Refusal}
+use Rattle.p4all_top.specs.declared.reading.Refusal.TheVariants as refusal
+use Rattle.p4all_top.specs.Refusing.{lexer_refusal, parser_refusal, check_refusal}
+use Rattle.p4all_top.specs.Source.{IsProgram, HasNoProgram, IsOnlyProgram, IsNoSource, IsRefusedBy, IsSourceRefused}
 
 -- where the text has no tokens
-pub no_tokens : (text : List ℕ) (error : LexError) → IsBad text error → error ≢ lexed.Memory → HasNoProgram text
-no_tokens text (lexed.BadByte at) bad other decls program = bad_has_none text at bad.0 program.tokens program.tokens_are
-no_tokens text (lexed.BadNumber at) bad other decls program = bad_has_none text at bad.0 program.tokens program.tokens_are
-no_tokens text (lexed.OpenComment at) bad other decls program = bad_has_none text at bad.0 program.tokens program.tokens_are
-no_tokens text lexed.Memory bad other decls program = other refl
-
--- a program of the text is spelled by its tokens
-spelled_by : (text : List ℕ) (tokens given : List Token) (decls : PlainProgram) → TokensOf text tokens → given ≡ tokens → IsProgram text decls → Spells 80 decls (words text given)
-spelled_by text tokens given decls of e program =
-    subst (λ (z : List Token). Spells 80 decls (words text z)) (one_list text program.tokens tokens program.tokens_are of ∙ sym e) program.spelled
+pub refused_tokens : (text : List ℕ) (error : LexError) (why : Refusal) → IsBad text error → lexer_refusal error ≡ Some why → IsRefusedBy text why
+refused_tokens text (lexed.BadByte at) why bad e = let same : refusal.Byte at ≡ why = cc in subst (λ (z : Refusal). IsRefusedBy text z) same bad
+refused_tokens text (lexed.BadNumber at) why bad e = let same : refusal.Number at ≡ why = cc in subst (λ (z : Refusal). IsRefusedBy text z) same bad
+refused_tokens text (lexed.OpenComment at) why bad e = let same : refusal.Comment at ≡ why = cc in subst (λ (z : Refusal). IsRefusedBy text z) same bad
+refused_tokens text lexed.Memory why bad e = absurd (cc e)
 
 abbrev OnlyReads : List ℕ → List Token → Result Program SyntaxError → Type 0
-OnlyReads text given result = (decls : PlainProgram) → Spells 80 decls (words text given) → IsRead seen_program decls result
+OnlyReads text given result = (more : ℕ) (program : PlainProgram) → SpellsProgram more program (words text given) → IsReadWithin ((more ≤ 80) × ProgramHasFew program) seen_program program result
+
+-- a program of the text is spelled by its tokens
+spelled_by : (text : List ℕ) (tokens given : List Token) (program : PlainProgram) → TokensOf text tokens → given ≡ tokens → IsProgramOf text program → SpellsProgram 80 program (words text given)
+spelled_by text tokens given program of e spells =
+    subst (λ (z : List Token). SpellsProgram 80 program (words text z)) (one_list text spells.tokens tokens spells.tokens_are of ∙ sym e) spells.spelled
 
 -- where the tokens spell nothing
-pub no_tree : (text : List ℕ) (tokens given : List Token) (error : SyntaxError) → TokensOf text tokens → given ≡ tokens → OnlyReads text given (Err error) → error ≢ syntax_error.Memory → HasNoProgram text
-no_tree text tokens given error of e only other decls program = by error other (only decls (spelled_by text tokens given decls of e program))
-  where
-    by : (error : SyntaxError) → error ≢ syntax_error.Memory → IsRead seen_program decls (Err error) → ⊥
-    by syntax_error.Memory other read = other refl
-    by (syntax_error.NotProgram token) other read = read
-    by (syntax_error.TooDeep token) other read = read
+pub refused_tree : (text : List ℕ) (tokens given : List Token) (error : SyntaxError) (why : Refusal) → TokensOf text tokens → given ≡ tokens → OnlyReads text given (Err error) → NamesAtMost (length given) error → parser_refusal error ≡ Some why
+    → IsRefusedBy text why
+refused_tree text tokens given (parsed.NotProgram token) why of e only named is =
+    let same : refusal.Syntax token ≡ why = cc in
+    subst (λ (z : Refusal). IsRefusedBy text z) same record {
+      tokens = given;
+      tokens_are = subst (λ (z : List Token). TokensOf text z) (sym e) of;
+      within = named;
+      none = only;
+    }
+refused_tree text tokens given (parsed.TooDeep token) why of e only named is =
+    let same : refusal.Deep token ≡ why = cc in
+    subst (λ (z : Refusal). IsRefusedBy text z) same record {
+      tokens = given;
+      tokens_are = subst (λ (z : List Token). TokensOf text z) (sym e) of;
+      within = named;
+      none = λ program spells. only 80 program (spelled_by text tokens given program of e spells) (omega arith, spells.few);
+    }
+refused_tree text tokens given parsed.Memory why of e only named is = absurd (cc is)
+
+-- what the parser gives of the tokens of a text
+pub record IsParsed (text : List ℕ) (tokens given : List Token) (tree : Program) : Type 0 where
+  pub of : TokensOf text tokens
+  pub same : given ≡ tokens
+  pub only : OnlyReads text given (Ok tree)
+  pub spelled : SpellsProgram 80 (seen_program tree) (words text given)
+  pub few : ProgramHasFew (seen_program tree)
+
+program_is : (text : List ℕ) (tokens given : List Token) (tree : Program) → IsParsed text tokens given tree → IsProgramOf text (seen_program tree)
+program_is text tokens given tree read = record {
+  tokens = tokens;
+  tokens_are = read.of;
+  spelled = subst (λ (z : List Token). SpellsProgram 80 (seen_program tree) (words text z)) read.same read.spelled;
+  few = read.few;
+}
 
 -- all that a program of the text can be
-same_tree : (text : List ℕ) (tokens given : List Token) (tree : Program) (decls : PlainProgram) → TokensOf text tokens → given ≡ tokens → OnlyReads text given (Ok tree) → IsProgram text decls → decls ≡ seen_program tree
-same_tree text tokens given tree decls of e only program = sym (only decls (spelled_by text tokens given decls of e program))
+same_tree : (text : List ℕ) (tokens given : List Token) (tree : Program) (program : PlainProgram) → IsParsed text tokens given tree → IsProgramOf text program → program ≡ seen_program tree
+same_tree text tokens given tree program read spells = sym (read.only 80 program (spelled_by text tokens given program read.of read.same spells))
 
-later_linear : (terms : List UtilTerm) (ws : List Word) → Each SpellsLaterUtility terms ws → list_all is_linear terms ≡ true
-later_linear [] ws spelled = refl
-later_linear (util.Lin term ∷ terms) ws spelled = later_linear terms spelled.back spelled.second
-later_linear (util.Steps minus symbol pairs ∷ terms) ws spelled = absurd spelled.first
+-- where the program isn't taken
+pub refused_program : (text : List ℕ) (tokens given : List Token) (tree : Program) (error : CheckError) (why : Refusal) → IsParsed text tokens given tree → IsBroken false (seen_program tree) error → check_refusal error ≡ Some why → IsRefusedBy text why
+refused_program text tokens given tree (checked.Broken found) why read broken is =
+    let same : refusal.NotYet ≡ why = cc in
+    subst (λ (z : Refusal). IsRefusedBy text z) same record {
+      program = seen_program tree;
+      spelled = program_is text tokens given tree read;
+      only = λ other spells. same_tree text tokens given tree other read spells;
+      not_taken = inr (λ typed. typed found.rule found.decl broken);
+    }
+refused_program text tokens given tree checked.NotYet why read broken is =
+    let same : refusal.NotYet ≡ why = cc in
+    subst (λ (z : Refusal). IsRefusedBy text z) same record {
+      program = seen_program tree;
+      spelled = program_is text tokens given tree read;
+      only = λ other spells. same_tree text tokens given tree other read spells;
+      not_taken = inl broken;
+    }
+refused_program text tokens given tree checked.Memory why read broken is = absurd (cc is)
 
-utility_linear : (terms : List UtilTerm) (ws : List Word) → SpellsUtility terms ws → list_all is_linear terms ≡ true
-utility_linear [] ws spelled = absurd spelled
-utility_linear (util.Lin term ∷ terms) ws spelled = later_linear terms spelled.back spelled.second
-utility_linear (util.Steps minus symbol pairs ∷ terms) ws spelled = absurd spelled.first
-
--- what is spelled is of a form that the checker takes
-decl_begun : (depth : ℕ) (decl : PlainDecl) (ws : List Word) → SpellsDecl depth decl ws → is_begun decl ≡ true
-decl_begun depth (PlainDecl.Symbol name) ws spelled = refl
-decl_begun depth (PlainDecl.Assume comps) ws spelled = refl
-decl_begun zero (PlainDecl.Maximize terms) ws spelled = absurd spelled.second.first
-decl_begun (suc depth) (PlainDecl.Maximize terms) ws spelled = utility_linear terms spelled.second.first.second.front spelled.second.first.second.first
-decl_begun depth (PlainDecl.Meta fields) ws spelled = refl
-decl_begun depth _ ws spelled = absurd spelled
-
-all_begun : (depth : ℕ) (decls : List PlainDecl) (ws : List Word) (number : ℕ) (decl : PlainDecl) → Spells depth decls ws → slice_get decls number ≡ Some decl → is_begun decl ≡ true
-all_begun depth [] ws number decl spelled e = absurd (cc e)
-all_begun depth (d ∷ decls) ws zero decl spelled e = let same : d ≡ decl = cc in ap is_begun (sym same) ∙ decl_begun depth d spelled.front spelled.first
-all_begun depth (d ∷ decls) ws (suc number) decl spelled e = all_begun depth decls spelled.back number decl spelled.second e
-
--- where the program isn't typed
-pub not_typed : (text : List ℕ) (tokens given : List Token) (tree : Program) (error : CheckError) → TokensOf text tokens → given ≡ tokens → OnlyReads text given (Ok tree) → Spells 80 (seen_program tree) (words text given)
-    → IsBroken false (seen_program tree) error → error ≢ checked.Memory → HasNoProgram text
-not_typed text tokens given tree error of e only spelled broken other decls program =
-    by error broken other (subst (λ (z : PlainProgram). Typed false z) (same_tree text tokens given tree decls of e only program) program.typed)
-  where
-    by : (error : CheckError) → IsBroken false (seen_program tree) error → error ≢ checked.Memory → Typed false (seen_program tree) → ⊥
-    by (checked.Broken found) broken other typed = typed found.rule found.decl broken
-    by checked.NotYet broken other typed = true≢false (sym (all_begun 80 (seen_program tree) (words text given) broken.0 broken.1 spelled broken.2) ∙ broken.3)
-    by checked.Memory broken other typed = other refl
+all_begun : (decls : List PlainDecl) → list_all is_begun decls ≡ true → All (λ decl. is_begun decl ≡ true) decls
+all_begun [] h = All-nil (λ decl. is_begun decl ≡ true)
+all_begun (decl ∷ decls) h = let both = and_parts (is_begun decl) (list_all is_begun decls) h in All-cons (λ decl. is_begun decl ≡ true) decl decls both.0 (all_begun decls both.1)
 
 -- where it is
-pub only_program : (text : List ℕ) (tokens given : List Token) (tree : Program) (taken : List Decl) → TokensOf text tokens → given ≡ tokens → OnlyReads text given (Ok tree) → Spells 80 (seen_program tree) (words text given)
-    → taken ≡ tree.decls → Typed false (seen_program tree) → IsOnlyProgram text (seen_decls taken)
-only_program text tokens given tree taken of e only spelled same typed =
+pub only_program : (text : List ℕ) (tokens given : List Token) (tree : Program) (taken : List Decl) → IsParsed text tokens given tree → taken ≡ tree.decls → Typed false (seen_program tree) → list_all is_begun (seen_decls taken) ≡ true
+    → IsOnlyProgram text (seen_decls taken)
+only_program text tokens given tree taken read same typed begun =
     subst (λ (z : List Decl). IsOnlyProgram text (seen_decls z)) (sym same) record {
-      program = record { tokens = tokens; tokens_are = of; spelled = subst (λ (z : List Token). Spells 80 (seen_program tree) (words text z)) e spelled; typed = typed };
-      only = λ other program. same_tree text tokens given tree other of e only program;
+      program = record {
+        spelled = program_is text tokens given tree read;
+        begun = all_begun (seen_program tree) (ap (λ (z : List Decl). list_all is_begun (seen_decls z)) (sym same) ∙ begun);
+        typed = typed;
+      };
+      only = λ other program. same_tree text tokens given tree other read program.spelled;
     }
+
+-- a program without other declarations has none
+no_other : (decls : List PlainDecl) → All (λ decl. is_begun decl ≡ true) decls → HasOther decls → ⊥
+no_other decls begun (number, decl, there, other) =
+    let is : is_begun decl ≡ true =
+    subst (λ (z : PlainDecl). is_begun z ≡ true) (get_or_from_slice_get decls number decl decl there)
+    (All-get_or (λ decl. is_begun decl ≡ true) decls number decl (slice_get_within decls number decl there) begun) in
+    true≢false (sym is ∙ other)
+
+-- a text that is refused has no program
+pub refused_has_none : (text : List ℕ) (why : Refusal) → IsRefusedBy text why → HasNoProgram text
+refused_has_none text refusal.LongSource bad decls program = bad
+refused_has_none text refusal.LongTarget bad decls program = bad
+refused_has_none text (refusal.Byte at) bad decls program = bad_has_none text at bad.0 program.spelled.tokens program.spelled.tokens_are
+refused_has_none text (refusal.Number at) bad decls program = bad_has_none text at bad.0 program.spelled.tokens program.spelled.tokens_are
+refused_has_none text (refusal.Comment at) bad decls program = bad_has_none text at bad.0 program.spelled.tokens program.spelled.tokens_are
+refused_has_none text (refusal.Syntax token) bad decls program = bad.none 80 decls (spelled_by text bad.tokens bad.tokens decls bad.tokens_are refl program.spelled)
+refused_has_none text (refusal.Deep token) bad decls program = bad.none decls program.spelled
+refused_has_none text refusal.NotYet bad decls program = by bad.not_taken
+  where
+    same : decls ≡ bad.program
+    same = bad.only decls program.spelled
+
+    by : HasOther bad.program ⊎ (Typed false bad.program → ⊥) → ⊥
+    by (inl other) = no_other bad.program (subst (λ (z : PlainProgram). All (λ decl. is_begun decl ≡ true) z) same program.begun) other
+    by (inr untyped) = untyped (subst (λ (z : PlainProgram). Typed false z) same program.typed)
+
+-- a source that is refused isn't taken
+pub refused_source : (text : List ℕ) (why : Refusal) → IsSourceRefused text why → IsNoSource text
+refused_source text refusal.LongSource bad = inl bad
+refused_source text (refusal.Byte at) bad = inr (refused_has_none text (refusal.Byte at) bad.1)
+refused_source text (refusal.Number at) bad = inr (refused_has_none text (refusal.Number at) bad.1)
+refused_source text (refusal.Comment at) bad = inr (refused_has_none text (refusal.Comment at) bad.1)
+refused_source text (refusal.Syntax token) bad = inr (refused_has_none text (refusal.Syntax token) bad.1)
+refused_source text (refusal.Deep token) bad = inr (refused_has_none text (refusal.Deep token) bad.1)
+refused_source text refusal.NotYet bad = inr (refused_has_none text refusal.NotYet bad.1)
+refused_source text refusal.LongTarget bad = absurd bad.1

@@ -5,12 +5,14 @@ use Rattle.elastic_ast.specs.Tree.{PlainProgram, Name}
 use Rattle.elastic_ast.specs.Sums.{symbols_of, utility}
 use Rattle.elx_io.specs.Lines.{with_word, with_number, with_end}
 use Rattle.target_desc.specs.declared.target.Target.{Target}
+use Rattle.p4all_top.specs.declared.reading.Refusal.{Refusal}
+use Rattle.p4all_top.specs.declared.reading.Refusal.TheVariants as refusal
 use Rattle.p4all_top.specs.declared.status.Status.{Status}
 use Rattle.p4all_top.specs.declared.status.Status.TheVariants as status
 use Rattle.p4all_top.specs.Choice.{IsBounded, IsTooLarge, IsUnbounded}
-use Rattle.p4all_top.specs.Description.{IsDescription, IsNoDescription}
+use Rattle.p4all_top.specs.Description.{IsDescription, IsTargetRefused}
 use Rattle.p4all_top.specs.Optimum.{Best, Infeasible}
-use Rattle.p4all_top.specs.Source.{IsSource, IsNoSource}
+use Rattle.p4all_top.specs.Source.{IsSource, IsSourceRefused}
 
 -- a text and the line `size NAME VALUE`
 abbrev pub with_size : List ℕ → List ℕ → ℕ → List ℕ
@@ -38,6 +40,25 @@ unbounded_text symbol = with_end (with_word (with_word (with_word [] (codes "ref
 
 abbrev pub notyet_text : List ℕ
 notyet_text = with_end (with_word (with_word [] (codes "refused")) (codes "notyet"))
+
+-- the line `refused long FILE`
+abbrev pub long_text : List ℕ → List ℕ
+long_text file = with_end (with_word (with_word (with_word [] (codes "refused")) (codes "long")) file)
+
+-- the line `refused src CAUSE PLACE`
+abbrev pub source_text : List ℕ → ℕ → List ℕ
+source_text cause place = with_end (with_number (with_word (with_word (with_word [] (codes "refused")) (codes "src")) cause) (pos place))
+
+-- the line of each refusal
+abbrev pub refusal_text : Refusal → List ℕ
+refusal_text refusal.LongSource = long_text (codes "src")
+refusal_text refusal.LongTarget = long_text (codes "target")
+refusal_text (refusal.Byte at) = source_text (codes "byte") at
+refusal_text (refusal.Number at) = source_text (codes "number") at
+refusal_text (refusal.Comment at) = source_text (codes "comment") at
+refusal_text (refusal.Syntax token) = source_text (codes "syntax") token
+refusal_text (refusal.Deep token) = source_text (codes "deep") token
+refusal_text refusal.NotYet = notyet_text
 
 -- the lines show the best sizes of a program on a target, and the utility that is theirs
 pub record ShowsBest (decls : PlainProgram) (on : Target) (printed : List ℕ) : Type 0 where
@@ -80,15 +101,16 @@ pub record AnswersBoth (source target : List ℕ) (ended : Status) (printed : Li
   pub target_is : IsDescription target on
   pub answer : IsAnswerFor decls on ended printed
 
--- the source isn't taken, or it is and the description isn't
-abbrev pub IsNotTaken : List ℕ → List ℕ → Type 0
-IsNotTaken source target = IsNoSource source ⊎ ((decls : PlainProgram) × IsSource source decls × IsNoDescription target)
+-- why source or description aren't taken: the source is refused so, or it is taken and the description is refused so
+abbrev pub IsNotTaken : List ℕ → List ℕ → Refusal → Type 0
+IsNotTaken source target why = IsSourceRefused source why ⊎ ((decls : PlainProgram) × IsSource source decls × IsTargetRefused target why)
 
--- the line gives up, since the source or the description isn't taken
+-- the line refuses the source or the description, which isn't taken for this cause
 pub record RefusesText (source target : List ℕ) (ended : Status) (printed : List ℕ) : Type 0 where
-  pub cause : IsNotTaken source target
+  pub why : Refusal
+  pub cause : IsNotTaken source target why
   pub status_is : ended ≡ status.Refused
-  pub lines : printed ≡ notyet_text
+  pub lines : printed ≡ refusal_text why
 
 -- what `size` prints for the bytes of a source and of a target's description, by the status that it ends with
 abbrev pub IsSizeAnswer : List ℕ → List ℕ → Status → List ℕ → Type 0

@@ -13,6 +13,7 @@ pub mod Listing
 pub mod Optimum
 pub mod Picking
 pub mod Reading
+pub mod Refusing
 pub mod Shown
 pub mod Source
 pub mod Stopping

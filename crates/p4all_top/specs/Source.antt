@@ -1,19 +1,26 @@
--- The program that a text spells: by its tokens, within the depth that the language allows, and typed; and which texts are
--- taken as sources; this project's own.
-use Rattle.std.specs.Prelude.{◌≡◌, ◌<◌, ◌≤◌, ◌⊎◌, ℕ, List, length, false, Option, Some, None}
+-- The program that a text spells: by its tokens, within the numbers of brackets and operators that the language allows, of the
+-- declarations that are taken so far, and typed. Which texts are taken as sources, and why others aren't; this project's own.
+use Rattle.std.specs.Prelude.{◌≡◌, ◌<◌, ◌≤◌, ◌⊎◌, ℕ, List, length, All, true, false, Result, Ok, Err}
 use Rattle.elastic_ast.specs.declared.declarations.Decl.{Decl}
 use Rattle.elastic_ast.specs.Seen.{seen_decls}
 use Rattle.elastic_ast.specs.Tree.{PlainProgram}
 use Rattle.elastic_ast.specs.Typed.{Typed}
+use Rattle.p4_lexer.specs.declared.token.LexError.TheVariants as lexed
 use Rattle.p4_lexer.specs.declared.token.Token.{Token}
+use Rattle.p4_lexer.specs.BadPlaces.{IsBad}
 use Rattle.p4_lexer.specs.Tokens.{TokensOf}
-use Rattle.p4_parser.specs.Grammar.{Spells}
+use Rattle.p4_parser.specs.Declarations.{SpellsProgram}
+use Rattle.p4_parser.specs.ProgramOf.{IsProgramOf}
 use Rattle.spelling.specs.Words.{words}
+use Rattle.width_check.specs.Begun.{is_begun, HasOther}
+use Rattle.p4all_top.specs.declared.reading.Refusal.{Refusal}
+use Rattle.p4all_top.specs.declared.reading.Refusal.TheVariants as refusal
 
+-- the text spells this program, which has no declarations but symbols, assume clauses, a linear utility and the metadata, and
+-- it is typed
 pub record IsProgram (text : List ℕ) (decls : PlainProgram) : Type 0 where
-  pub tokens : List Token
-  pub tokens_are : TokensOf text tokens
-  pub spelled : Spells 80 decls (words text tokens)
+  pub spelled : IsProgramOf text decls
+  pub begun : All (λ decl. is_begun decl ≡ true) decls
   pub typed : Typed false decls
 
 -- the text spells this typed program, and no other
@@ -21,14 +28,48 @@ pub record IsOnlyProgram (text : List ℕ) (decls : PlainProgram) : Type 0 where
   pub program : IsProgram text decls
   pub only : (other : PlainProgram) → IsProgram text other → other ≡ decls
 
--- the text spells no typed program
+-- the text spells no typed program of these declarations
 abbrev pub HasNoProgram : List ℕ → Type 0
 HasNoProgram text = (decls : PlainProgram) → IsProgram text decls → ⊥
 
--- what is found in a text: its one typed program, or that it has none
-abbrev pub IsProgramFound : List ℕ → Option (List Decl) → Type 0
-IsProgramFound text None = HasNoProgram text
-IsProgramFound text (Some decls) = IsOnlyProgram text (seen_decls decls)
+-- the text has tokens, this one or the end of them among them, and they spell no program, whatever the numbers of brackets
+-- and operators are
+pub record SpellsNothing (text : List ℕ) (token : ℕ) : Type 0 where
+  pub tokens : List Token
+  pub tokens_are : TokensOf text tokens
+  pub within : token ≤ length tokens
+  pub none : (depth : ℕ) (program : PlainProgram) → SpellsProgram depth program (words text tokens) → ⊥
+
+-- the text has tokens, this one or the end of them among them, and they spell no program within the numbers of brackets and
+-- operators that the language allows
+pub record SpellsTooDeep (text : List ℕ) (token : ℕ) : Type 0 where
+  pub tokens : List Token
+  pub tokens_are : TokensOf text tokens
+  pub within : token ≤ length tokens
+  pub none : (program : PlainProgram) → IsProgramOf text program → ⊥
+
+-- the text spells one program and no other, which has other declarations or isn't typed
+pub record SpellsOther (text : List ℕ) : Type 0 where
+  pub program : PlainProgram
+  pub spelled : IsProgramOf text program
+  pub only : (other : PlainProgram) → IsProgramOf text other → other ≡ program
+  pub not_taken : HasOther program ⊎ (Typed false program → ⊥)
+
+-- why a text spells no typed program of these declarations
+abbrev pub IsRefusedBy : List ℕ → Refusal → Type 0
+IsRefusedBy text refusal.LongSource = ⊥
+IsRefusedBy text refusal.LongTarget = ⊥
+IsRefusedBy text (refusal.Byte at) = IsBad text (lexed.BadByte at)
+IsRefusedBy text (refusal.Number at) = IsBad text (lexed.BadNumber at)
+IsRefusedBy text (refusal.Comment at) = IsBad text (lexed.OpenComment at)
+IsRefusedBy text (refusal.Syntax token) = SpellsNothing text token
+IsRefusedBy text (refusal.Deep token) = SpellsTooDeep text token
+IsRefusedBy text refusal.NotYet = SpellsOther text
+
+-- what is found in a text: its one typed program, or why it spells none
+abbrev pub IsProgramFound : List ℕ → Result (List Decl) Refusal → Type 0
+IsProgramFound text (Ok decls) = IsOnlyProgram text (seen_decls decls)
+IsProgramFound text (Err cause) = IsRefusedBy text cause
 
 -- a source is taken: it is no longer than 16777216 bytes, and spells this program
 pub record IsSource (text : List ℕ) (decls : PlainProgram) : Type 0 where
@@ -39,7 +80,12 @@ pub record IsSource (text : List ℕ) (decls : PlainProgram) : Type 0 where
 abbrev pub IsNoSource : List ℕ → Type 0
 IsNoSource text = (16777216 < length text) ⊎ HasNoProgram text
 
--- what is found in a source: its program, or that it isn't taken
-abbrev pub IsSourceFound : List ℕ → Option (List Decl) → Type 0
-IsSourceFound text None = IsNoSource text
-IsSourceFound text (Some decls) = IsSource text (seen_decls decls)
+-- why a source isn't taken
+abbrev pub IsSourceRefused : List ℕ → Refusal → Type 0
+IsSourceRefused text refusal.LongSource = 16777216 < length text
+IsSourceRefused text cause = (length text ≤ 16777216) × IsRefusedBy text cause
+
+-- what is found in a source: its program, or why it isn't taken
+abbrev pub IsSourceFound : List ℕ → Result (List Decl) Refusal → Type 0
+IsSourceFound text (Ok decls) = IsSource text (seen_decls decls)
+IsSourceFound text (Err cause) = IsSourceRefused text cause

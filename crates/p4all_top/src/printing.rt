@@ -1,8 +1,9 @@
 //! The lines that `size` prints.
 
 ghost use Rattle.std.specs.Prelude.{◌≡◌, ◌≤◌, length, IfOk, OnOk};
-ghost use Rattle.p4all_top.specs.Answer.{with_size, with_utility, sizes_text, infeasible_text, unbounded_text, notyet_text};
+ghost use Rattle.p4all_top.specs.Answer.{with_size, with_utility, sizes_text, infeasible_text, unbounded_text, notyet_text, long_text, source_text, refusal_text};
 
+use crate::reading::Refusal;
 use elx_bits::Name;
 use elx_io::Lines;
 use std::alloc::{AllocError, Global};
@@ -66,8 +67,49 @@ pub fn unbounded_line(alloc: Global, symbol: &Name) -> Result<Lines, AllocError>
     Ok(lines)
 }
 
+/// The line that refuses a source or a target's description.
+pub fn refusal_line(alloc: Global, refusal: Refusal) -> Result<Lines, AllocError>
+    ensures { IfOk result (λ lines. lines ≡ refusal_text refusal) }
+{
+    match refusal {
+        Refusal::LongSource => long_line(alloc, b"src"),
+        Refusal::LongTarget => long_line(alloc, b"target"),
+        Refusal::Byte { at } => source_line(alloc, b"byte", at),
+        Refusal::Number { at } => source_line(alloc, b"number", at),
+        Refusal::Comment { at } => source_line(alloc, b"comment", at),
+        Refusal::Syntax { token } => source_line(alloc, b"syntax", token),
+        Refusal::Deep { token } => source_line(alloc, b"deep", token),
+        Refusal::NotYet => notyet_line(alloc),
+    }
+}
+
+/// The line that refuses a file that is too long.
+fn long_line(alloc: Global, file: &[u8]) -> Result<Lines, AllocError>
+    ensures { IfOk result (λ lines. lines ≡ long_text file.now) }
+{
+    let mut lines = Lines::new(alloc);
+    lines.word(b"refused")?;
+    lines.word(b"long")?;
+    lines.word(file)?;
+    lines.end()?;
+    Ok(lines)
+}
+
+/// The line that refuses a source for what stands at one place of it.
+fn source_line(alloc: Global, cause: &[u8], place: u32) -> Result<Lines, AllocError>
+    ensures { IfOk result (λ lines. lines ≡ source_text cause.now place) }
+{
+    let mut lines = Lines::new(alloc);
+    lines.word(b"refused")?;
+    lines.word(b"src")?;
+    lines.word(cause)?;
+    lines.number(i128::from(place))?;
+    lines.end()?;
+    Ok(lines)
+}
+
 /// The line that refuses what isn't built yet.
-pub fn notyet_line(alloc: Global) -> Result<Lines, AllocError>
+fn notyet_line(alloc: Global) -> Result<Lines, AllocError>
     ensures { IfOk result (λ lines. lines ≡ notyet_text) }
 {
     let mut lines = Lines::new(alloc);

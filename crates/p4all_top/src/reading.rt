@@ -1,8 +1,9 @@
-//! The program that a source spells, and the target that a text describes.
+//! The program that a source spells, the target that a text describes, and why there is none.
 
-ghost use Rattle.std.specs.Prelude.{◌≢◌, ◌≤◌, length, IfOk, IfSome, OnOk};
+ghost use Rattle.std.specs.Prelude.{◌≡◌, ◌≤◌, length, IfOk, IfSome, Some};
 ghost use Rattle.target_desc.specs.InRange.{IsInRange};
 ghost use Rattle.p4all_top.specs.Description.{IsTargetFound};
+ghost use Rattle.p4all_top.specs.Refusing.{lexer_refusal, parser_refusal, check_refusal};
 ghost use Rattle.p4all_top.specs.Source.{IsProgramFound};
 
 use p4_lexer::{LexError, lex};
@@ -10,7 +11,29 @@ use p4_parser::parse;
 use spelling::SyntaxError;
 use std::alloc::{AllocError, Global};
 use target_desc::{Target, TargetError};
-use width_check::{CheckError, Checked, check};
+use width_check::{CheckError, Checked, check, program};
+
+/// Why a source or a target's description isn't taken. Places in the source are in bytes, and tokens of it are numbered; both
+/// count from 0.
+#[derive(Clone, Copy, Debug, PartialEq, Eq)]
+pub enum Refusal {
+    /// The source has more than `MOST_SOURCE` bytes.
+    LongSource,
+    /// The description has more than `MOST_TARGET` bytes.
+    LongTarget,
+    /// No token, space or comment of the source begins with the byte there.
+    Byte { at: u32 },
+    /// The number there in the source has a wrong form, width or size.
+    Number { at: u32 },
+    /// The `/*` there in the source has no end.
+    Comment { at: u32 },
+    /// The source is no program. The reading stopped at this token, or at the end of the tokens.
+    Syntax { token: u32 },
+    /// The source is no program within the numbers of brackets and operators. This token passes one of them.
+    Deep { token: u32 },
+    /// The source has other declarations than those that are taken so far, or isn't typed; or the text describes no target.
+    NotYet,
+}
 
 /// The most bytes of a source.
 pub const MOST_SOURCE: u64 = 16_777_216;
@@ -21,61 +44,59 @@ pub const MOST_TARGET: u64 = 65_536;
 /// The most brackets that are open at one token.
 const MOST_DEPTH: u32 = 80;
 
-/// The typed program that a text spells, or None where it spells none.
-pub fn program_of(alloc: Global, text: &[u8]) -> Result<Option<Checked>, AllocError>
+/// The typed program that a text spells, or why it spells none.
+pub fn program_of(alloc: Global, text: &[u8]) -> Result<Result<Checked, Refusal>, AllocError>
     requires { length text.now ≤ 16777216 }
     ensures { IfOk result (IsProgramFound text.now) }
 {
     let tokens = match lex(alloc, text) {
         Ok(tokens) => tokens,
-        Err(error) => {
-            refused_by_lexer(error)?;
-            return Ok(None);
-        }
+        Err(error) => return Ok(Err(refused_by_lexer(error)?)),
     };
-    let program = match parse(alloc, text, tokens.as_slice(), MOST_DEPTH) {
-        Ok(program) => program,
-        Err(error) => {
-            refused_by_parser(error)?;
-            return Ok(None);
-        }
+    let parsed = match parse(alloc, text, tokens.as_slice(), MOST_DEPTH) {
+        Ok(parsed) => parsed,
+        Err(error) => return Ok(Err(refused_by_parser(error)?)),
     };
-    match check(alloc, program, false) {
-        Ok(checked) => Ok(Some(checked)),
-        Err(error) => {
-            refused_by_check(error)?;
-            Ok(None)
+    match check(alloc, parsed, false) {
+        Ok(checked) => {
+            // The declarations of what was checked are of the forms that are taken.
+            let _ = program(&checked);
+            Ok(Ok(checked))
         }
+        Err(error) => Ok(Err(refused_by_check(error)?)),
     }
 }
 
-/// Nothing where the lexer refused a text, or else want of memory.
-fn refused_by_lexer(error: LexError) -> Result<(), AllocError>
-    ensures { OnOk result (error ≢ LexError.Memory) }
+/// The refusal of a text by the lexer.
+fn refused_by_lexer(error: LexError) -> Result<Refusal, AllocError>
+    ensures { IfOk result (λ refusal. lexer_refusal error ≡ Some refusal) }
 {
     match error {
+        LexError::BadByte { at } => Ok(Refusal::Byte { at }),
+        LexError::BadNumber { at } => Ok(Refusal::Number { at }),
+        LexError::OpenComment { at } => Ok(Refusal::Comment { at }),
         LexError::Memory => Err(AllocError),
-        _ => Ok(()),
     }
 }
 
-/// Nothing where the parser refused tokens, or else want of memory.
-fn refused_by_parser(error: SyntaxError) -> Result<(), AllocError>
-    ensures { OnOk result (error ≢ SyntaxError.Memory) }
+/// The refusal of tokens by the parser.
+fn refused_by_parser(error: SyntaxError) -> Result<Refusal, AllocError>
+    ensures { IfOk result (λ refusal. parser_refusal error ≡ Some refusal) }
 {
     match error {
+        SyntaxError::NotProgram { token } => Ok(Refusal::Syntax { token }),
+        SyntaxError::TooDeep { token } => Ok(Refusal::Deep { token }),
         SyntaxError::Memory => Err(AllocError),
-        _ => Ok(()),
     }
 }
 
-/// Nothing where the check refused a program, or else want of memory.
-fn refused_by_check(error: CheckError) -> Result<(), AllocError>
-    ensures { OnOk result (error ≢ CheckError.Memory) }
+/// The refusal of a program by the check.
+fn refused_by_check(error: CheckError) -> Result<Refusal, AllocError>
+    ensures { IfOk result (λ refusal. check_refusal error ≡ Some refusal) }
 {
     match error {
+        CheckError::Broken(_) | CheckError::NotYet => Ok(Refusal::NotYet),
         CheckError::Memory => Err(AllocError),
-        _ => Ok(()),
     }
 }
 

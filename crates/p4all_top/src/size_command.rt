@@ -12,8 +12,8 @@ ghost use Rattle.p4all_top.specs.Commands.{IsEnd, IsSizeEnd, IsShown, StatusCoun
 ghost use Rattle.p4all_top.specs.Ending.{EndsBy};
 
 use crate::files::read_file;
-use crate::reading::{MOST_SOURCE, MOST_TARGET, program_of, target_of};
-use crate::sizing::{Answer, not_yet, size_answer};
+use crate::reading::{MOST_SOURCE, MOST_TARGET, Refusal, program_of, target_of};
+use crate::sizing::{Answer, refused, size_answer};
 use crate::status::Status;
 use crate::stopping::Stop;
 use elx_io::{Shelf, Sink, SinkErr};
@@ -21,8 +21,12 @@ use std::alloc::{AllocError, Global};
 use target_desc::Target;
 use width_check::Checked;
 
-/// The program of a source, or None where the source isn't taken.
-fn read_program<S: Shelf>(alloc: Global, shelf: &mut S, name: &str) -> Result<Option<Checked>, Stop>
+/// The program of a source, or why the source isn't taken.
+fn read_program<S: Shelf>(
+    alloc: Global,
+    shelf: &mut S,
+    name: &str,
+) -> Result<Result<Checked, Refusal>, Stop>
     ensures found { IfOk result (λ found. IfSome (S.holds shelf.old) (λ files. IsSourceFound (bytes_at files name.now) found)) }
     ensures kept { S.holds shelf.new ≡ S.holds shelf.old }
     ensures leads { S.read_leads shelf.old name.now shelf.new }
@@ -30,7 +34,7 @@ fn read_program<S: Shelf>(alloc: Global, shelf: &mut S, name: &str) -> Result<Op
 {
     let bytes = match read_file(alloc, shelf, name, MOST_SOURCE) {
         Ok(Some(bytes)) => bytes,
-        Ok(None) => return Ok(None),
+        Ok(None) => return Ok(Err(Refusal::LongSource)),
         Err(stop) => return Err(stop),
     };
     match program_of(alloc, bytes.as_slice()) {
@@ -39,20 +43,25 @@ fn read_program<S: Shelf>(alloc: Global, shelf: &mut S, name: &str) -> Result<Op
     }
 }
 
-/// The target of a description, or None where the description isn't taken.
-fn read_target<S: Shelf>(alloc: Global, shelf: &mut S, name: &str) -> Result<Option<Target>, Stop>
+/// The target of a description, or why the description isn't taken.
+fn read_target<S: Shelf>(
+    alloc: Global,
+    shelf: &mut S,
+    name: &str,
+) -> Result<Result<Target, Refusal>, Stop>
     ensures found { IfOk result (λ found. IfSome (S.holds shelf.old) (λ files. IsDescriptionFound (bytes_at files name.now) found)) }
-    ensures in_range { IfOk result (λ found. IfSome found IsInRange) }
+    ensures in_range { IfOk result (λ found. IfOk found IsInRange) }
     ensures kept { S.holds shelf.new ≡ S.holds shelf.old }
     ensures counts { StopCounts (S.faults shelf.old) (S.faults shelf.new) result }
 {
     let bytes = match read_file(alloc, shelf, name, MOST_TARGET) {
         Ok(Some(bytes)) => bytes,
-        Ok(None) => return Ok(None),
+        Ok(None) => return Ok(Err(Refusal::LongTarget)),
         Err(stop) => return Err(stop),
     };
     match target_of(alloc, bytes.as_slice()) {
-        Ok(found) => Ok(found),
+        Ok(Some(target)) => Ok(Ok(target)),
+        Ok(None) => Ok(Err(Refusal::NotYet)),
         Err(_) => Err(Stop::Memory),
     }
 }
@@ -66,13 +75,13 @@ fn find<S: Shelf>(alloc: Global, shelf: &mut S, source: &str, target: &str) -> R
     ensures counts { StopCounts (S.faults shelf.old) (S.faults shelf.new) result }
 {
     let checked = match read_program(alloc, shelf, source) {
-        Ok(Some(checked)) => checked,
-        Ok(None) => return in_memory(not_yet(alloc)),
+        Ok(Ok(checked)) => checked,
+        Ok(Err(refusal)) => return in_memory(refused(alloc, refusal)),
         Err(stop) => return Err(stop),
     };
     let target = match read_target(alloc, shelf, target) {
-        Ok(Some(target)) => target,
-        Ok(None) => return in_memory(not_yet(alloc)),
+        Ok(Ok(target)) => target,
+        Ok(Err(refusal)) => return in_memory(refused(alloc, refusal)),
         Err(stop) => return Err(stop),
     };
     in_memory(size_answer(alloc, &checked, &target))

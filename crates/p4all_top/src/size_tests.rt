@@ -111,6 +111,12 @@ fn size_prints_the_best_sizes_or_why_there_are_none(rt: HostRuntime) -> Result<(
     Ok(())
 }
 
+/// Whether `size` refuses a source and a target's description with this line.
+fn refuses(alloc: Global, source: &[u8], target: &[u8], line: &str) -> Result<bool, AllocError> {
+    let (ended, out) = run(alloc, source, target, &[])?;
+    Ok(ended == Status::Refused && out.bytes() == line.as_bytes())
+}
+
 #[test]
 fn what_is_not_built_yet_is_refused(rt: HostRuntime) -> Result<(), Fail> {
     let target = one_stage(rt.alloc(), 64)?;
@@ -121,16 +127,71 @@ fn what_is_not_built_yet_is_refused(rt: HostRuntime) -> Result<(), Fail> {
         ),
         ("symbolic int s; symbolic int s;", target.as_str()),
         ("symbolic int a__1;", target.as_str()),
-        ("a $", target.as_str()),
         ("maximize(x);", target.as_str()),
         ("header h_t { bit<8> v; }", target.as_str()),
         ("maximize(7);", "stages = 1\n"),
         ("symbolic int x;", "stages = 1\n"),
     ];
     for (source, target) in rows {
-        let (ended, out) = run(rt.alloc(), source.as_bytes(), target.as_bytes(), &[])?;
-        assert_eq!(rt; ended, Status::Refused, "{source}");
-        assert_eq!(rt; out.bytes(), b"refused notyet\n".as_slice(), "{source}");
+        let refused = refuses(
+            rt.alloc(),
+            source.as_bytes(),
+            target.as_bytes(),
+            "refused notyet\n",
+        )?;
+        assert!(rt; refused, "{source}");
+    }
+    Ok(())
+}
+
+#[test]
+fn what_is_no_program_is_refused_with_its_place(rt: HostRuntime) -> Result<(), Fail> {
+    let target = one_stage(rt.alloc(), 64)?;
+    let rows = [
+        ("a $", "refused src byte 2\n"),
+        ("const bit<8> a = 129w1;", "refused src number 17\n"),
+        ("/*", "refused src comment 0\n"),
+        ("symbolic int int;", "refused src syntax 2\n"),
+        ("maximize(7)", "refused src syntax 4\n"),
+        ("maximize(7; $", "refused src byte 12\n"),
+    ];
+    for (source, line) in rows {
+        let refused = refuses(rt.alloc(), source.as_bytes(), target.as_bytes(), line)?;
+        assert!(rt; refused, "{source}");
+    }
+    let open = vec![in rt.alloc(); b'('; 1_000_000]?;
+    let refused = refuses(
+        rt.alloc(),
+        open.as_slice(),
+        target.as_bytes(),
+        "refused src syntax 0\n",
+    )?;
+    assert!(rt; refused);
+    Ok(())
+}
+
+/// A whole program whose control assigns in so many conditions, each in the one before.
+fn nested(alloc: Global, conditions: usize) -> Result<String, AllocError> {
+    let opened = "if (hdr.h.v == 0) {".repeat(alloc, conditions)?;
+    let closed = "}".repeat(alloc, conditions)?;
+    format!(in alloc;
+        "header h_t {{ bit<8> v; }} struct headers_t {{ h_t h; }} struct meta_t {{ }}\n\
+        parser P(packet_in pkt, out headers_t hdr, inout meta_t meta, inout std_t std) {{\n\
+        state start {{ pkt.extract(hdr.h); transition accept; }} }}\n\
+        control C(inout headers_t hdr, inout meta_t meta, inout std_t std) {{ apply {{\n\
+        {opened} hdr.h.v = 1; {closed} }} }}\n\
+        control D(packet_out pkt, in headers_t hdr) {{ apply {{ pkt.emit(hdr.h); }} }}\n\
+        Pisa(P(), C(), D()) main;\n"
+    )
+}
+
+#[test]
+fn eighty_brackets_may_be_open_and_no_more(rt: HostRuntime) -> Result<(), Fail> {
+    let target = one_stage(rt.alloc(), 512)?;
+    for (conditions, line) in [(78, "refused notyet\n"), (79, "refused src deep 934\n")] {
+        let source = nested(rt.alloc(), conditions)?;
+        let refused = refuses(rt.alloc(), source.as_bytes(), target.as_bytes(), line)?;
+        assert!(rt; refused, "{conditions}");
     }
     Ok(())
 }
@@ -138,18 +199,24 @@ fn what_is_not_built_yet_is_refused(rt: HostRuntime) -> Result<(), Fail> {
 #[test]
 fn files_may_have_their_limits_and_no_byte_more(rt: HostRuntime) -> Result<(), Fail> {
     let target = one_stage(rt.alloc(), 64)?;
-    for (spaces, status) in [(16_777_216, Status::Done), (16_777_217, Status::Refused)] {
-        let source = vec![in rt.alloc(); b' '; spaces]?;
-        let (ended, _) = run(rt.alloc(), source.as_slice(), target.as_bytes(), &[])?;
-        assert_eq!(rt; ended, status, "{spaces}");
-    }
+    let mut source = vec![in rt.alloc(); b' '; 16_777_216]?;
+    let (ended, _) = run(rt.alloc(), source.as_slice(), target.as_bytes(), &[])?;
+    assert_eq!(rt; ended, Status::Done);
+    source.push(b' ')?;
+    let refused = refuses(
+        rt.alloc(),
+        source.as_slice(),
+        target.as_bytes(),
+        "refused long src\n",
+    )?;
+    assert!(rt; refused);
     let mut text = vec![in rt.alloc(); b'\n'; 65_536 - target.len().min(65_536)]?;
     text.extend_from_slice(target.as_bytes())?;
     let (ended, _) = run(rt.alloc(), b"", text.as_slice(), &[])?;
     assert_eq!(rt; ended, Status::Done);
     text.push(b'\n')?;
-    let (ended, _) = run(rt.alloc(), b"", text.as_slice(), &[])?;
-    assert_eq!(rt; ended, Status::Refused);
+    let refused = refuses(rt.alloc(), b"", text.as_slice(), "refused long target\n")?;
+    assert!(rt; refused);
     Ok(())
 }
 
@@ -176,7 +243,7 @@ fn a_bad_source_is_refused_before_the_target_is_read(rt: HostRuntime) -> Result<
     let target = one_stage(rt.alloc(), 64)?;
     let (ended, out) = run(rt.alloc(), b"a $", target.as_bytes(), &[2])?;
     assert_eq!(rt; ended, Status::Refused);
-    assert_eq!(rt; out.bytes(), b"refused notyet\n".as_slice());
+    assert_eq!(rt; out.bytes(), b"refused src byte 2\n".as_slice());
     Ok(())
 }
 

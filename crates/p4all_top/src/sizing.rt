@@ -4,12 +4,13 @@ ghost use Rattle.std.specs.Prelude.{◌≡◌, IfOk, length};
 ghost use Rattle.elastic_ast.specs.Seen.{seen_decls};
 ghost use Rattle.elastic_ast.specs.Sums.{symbols_of};
 ghost use Rattle.target_desc.specs.InRange.{IsInRange};
-ghost use Rattle.p4all_top.specs.Answer.{IsAnswerFor, sizes_text, infeasible_text, unbounded_text, notyet_text};
+ghost use Rattle.p4all_top.specs.Answer.{IsAnswerFor, sizes_text, infeasible_text, unbounded_text, refusal_text};
 ghost use Rattle.p4all_top.specs.Choice.{IsChoice, AreTermsOf};
 ghost use Rattle.p4all_top.specs.Shown.{FitsSymbols, ShowsChoice};
 
 use crate::choosing::{Choice, choose};
-use crate::printing::{infeasible_line, notyet_line, sizes_lines, unbounded_line};
+use crate::printing::{infeasible_line, refusal_line, sizes_lines, unbounded_line};
+use crate::reading::Refusal;
 use crate::status::Status;
 use elastic_ast::Sizes;
 use elx_bits::Name;
@@ -26,12 +27,12 @@ pub struct Answer {
     pub lines: Lines,
 }
 
-/// The refusal of what isn't built yet.
-pub fn not_yet(alloc: Global) -> Result<Answer, AllocError>
+/// The refusal of a source, of a description, or of what isn't built yet.
+pub fn refused(alloc: Global, refusal: Refusal) -> Result<Answer, AllocError>
     ensures status { IfOk result (λ answer. answer.status ≡ Status.Refused) }
-    ensures lines { IfOk result (λ answer. answer.lines ≡ notyet_text) }
+    ensures lines { IfOk result (λ answer. answer.lines ≡ refusal_text refusal) }
 {
-    let lines = notyet_line(alloc)?;
+    let lines = refusal_line(alloc, refusal)?;
     Ok(Answer {
         status: Status::Refused,
         lines,
@@ -89,7 +90,7 @@ fn answer_of(alloc: Global, symbols: &[Name], choice: Choice) -> Result<Answer, 
         Choice::Best { sizes, utility } => sized(alloc, symbols, &sizes, utility),
         Choice::Infeasible => infeasible(alloc),
         Choice::Unbounded { symbol } => unbounded(alloc, &symbols[symbol]),
-        Choice::TooMany => not_yet(alloc),
+        Choice::TooMany => refused(alloc, Refusal::NotYet),
     }
 }
 

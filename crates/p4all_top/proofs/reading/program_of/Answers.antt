@@ -1,19 +1,19 @@
-use Rattle.p4all_top.proofs.SourceLaws.{no_tokens, no_tree, not_typed, only_program}
+use Rattle.p4all_top.proofs.SourceLaws.{IsParsed, refused_tree, refused_program, only_program}
 use Rattle.p4all_top.proofs.reading.program_of.Goals as goal
-
-pub returns-in-Err : goal.returns-in-Err
-returns-in-Err c = no_tokens c.args.text.now c.in-Err.error c.in-Err.ensures.refused c.in_ok-refused_by_lexer-in-Err.ensures
 
 pub returns-in-Err-parse : goal.returns-in-Err-parse
 returns-in-Err-parse c =
-    no_tree c.args.text.now c.in-Ok.tokens c.as_slice.result.now c.in-Err-parse.error c.in-Ok.ensures.tokens c.as_slice.ensures c.in-Err-parse.ensures.only c.in_ok-refused_by_parser-in-Err-parse.ensures
+    refused_tree c.args.text.now c.in-Ok.tokens c.as_slice.result.now c.in-Err-parse.error c.in_ok-refused_by_parser-in-Err-parse.field-0 c.in-Ok.ensures.tokens c.as_slice.ensures c.in-Err-parse.ensures.only c.in-Err-parse.ensures.named
+    c.in_ok-refused_by_parser-in-Err-parse.ensures
 
 pub returns-in-Ok-check : goal.returns-in-Ok-check
 returns-in-Ok-check c =
-    only_program c.args.text.now c.in-Ok.tokens c.as_slice.result.now c.in-Ok-parse.program c.in-Ok-check.checked c.in-Ok.ensures.tokens c.as_slice.ensures c.in-Ok-parse.ensures.only c.in-Ok-parse.ensures.spelled
-    c.in-Ok-check.ensures.same c.in-Ok-check.ensures.typed
+    let read : IsParsed c.args.text.now c.in-Ok.tokens c.as_slice.result.now c.in-Ok-parse.parsed =
+    record { of = c.in-Ok.ensures.tokens; same = c.as_slice.ensures; only = c.in-Ok-parse.ensures.only; spelled = c.in-Ok-parse.ensures.spelled; few = c.in-Ok-parse.ensures.operators } in
+    only_program c.args.text.now c.in-Ok.tokens c.as_slice.result.now c.in-Ok-parse.parsed c.in-Ok-check.checked read c.in-Ok-check.ensures.same c.in-Ok-check.ensures.typed c.program.ensures.sound.begun
 
 pub returns : goal.returns
 returns c =
-    not_typed c.args.text.now c.in-Ok.tokens c.as_slice.result.now c.in-Ok-parse.program c.in-Err-check.error c.in-Ok.ensures.tokens c.as_slice.ensures c.in-Ok-parse.ensures.only c.in-Ok-parse.ensures.spelled
-    c.in-Err-check.ensures.broken c.in_ok-refused_by_check-in-Err-check.ensures
+    let read : IsParsed c.args.text.now c.in-Ok.tokens c.as_slice.result.now c.in-Ok-parse.parsed =
+    record { of = c.in-Ok.ensures.tokens; same = c.as_slice.ensures; only = c.in-Ok-parse.ensures.only; spelled = c.in-Ok-parse.ensures.spelled; few = c.in-Ok-parse.ensures.operators } in
+    refused_program c.args.text.now c.in-Ok.tokens c.as_slice.result.now c.in-Ok-parse.parsed c.in-Err-check.error c.in_ok-refused_by_check-in-Err-check.field-0 read c.in-Err-check.ensures.broken c.in_ok-refused_by_check-in-Err-check.ensures

@@ -1,0 +1,26 @@
+-- The refusals that the errors of the lexer, the parser and the checker stand for; want of memory is none. This project's own.
+use Rattle.std.specs.Prelude.{Option, Some, None}
+use Rattle.p4_lexer.specs.declared.token.LexError.{LexError}
+use Rattle.p4_lexer.specs.declared.token.LexError.TheVariants as lexed
+use Rattle.spelling.specs.declared.error.SyntaxError.{SyntaxError}
+use Rattle.spelling.specs.declared.error.SyntaxError.TheVariants as parsed
+use Rattle.width_check.specs.declared.checking.CheckError.{CheckError}
+use Rattle.width_check.specs.declared.checking.CheckError.TheVariants as checked
+use Rattle.p4all_top.specs.declared.reading.Refusal.{Refusal}
+use Rattle.p4all_top.specs.declared.reading.Refusal.TheVariants as refusal
+
+abbrev pub lexer_refusal : LexError → Option Refusal
+lexer_refusal (lexed.BadByte at) = Some (refusal.Byte at)
+lexer_refusal (lexed.BadNumber at) = Some (refusal.Number at)
+lexer_refusal (lexed.OpenComment at) = Some (refusal.Comment at)
+lexer_refusal lexed.Memory = None
+
+abbrev pub parser_refusal : SyntaxError → Option Refusal
+parser_refusal (parsed.NotProgram token) = Some (refusal.Syntax token)
+parser_refusal (parsed.TooDeep token) = Some (refusal.Deep token)
+parser_refusal parsed.Memory = None
+
+abbrev pub check_refusal : CheckError → Option Refusal
+check_refusal (checked.Broken broken) = Some refusal.NotYet
+check_refusal checked.NotYet = Some refusal.NotYet
+check_refusal checked.Memory = None
