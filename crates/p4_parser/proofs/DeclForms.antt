@@ -1,17 +1,17 @@
 -- The forms of declarations, told by their first words.
-use Rattle.std.proofs.Common.{◌≡◌, ℕ, zero, suc, List, [], ◌∷◌, ◌++◌, All, codes, drop, refl, sym, ap, subst, ◌∙◌, Bool, true, false, bytes_eq}
+use Rattle.std.proofs.Common.{◌≡◌, ℕ, zero, suc, List, [], ◌∷◌, ◌++◌, codes, drop, refl, subst, true, false, bytes_eq}
 use Rattle.std.proofs.lemmas.List.Elements.{All-append, All-nil}
 use Rattle.p4_lexer.specs.declared.token.Kind.TheVariants as kind
 use Rattle.elastic_ast.specs.Tree.{Name, PlainDecl, PlainLocal, PlainState, PlainStmts, PlainProgram}
 use Rattle.spelling.specs.Words.{Word}
-use Rattle.spelling.specs.Grammar.{Grammar, ◌⨟◌, One, Begins, Bracketed, IsNamed, IsReserved, Named, Reserved, Sign, is_reserved}
+use Rattle.spelling.specs.Grammar.{Grammar, ◌⨟◌, One, Begins, Bracketed, IsNamed, IsReserved, Named, Reserved, is_reserved}
 use Rattle.spelling.specs.Reading.{MayTake}
 use Rattle.spelling.proofs.Only.{begins, begins_both, begins_first, of_where, other_text, regroup, split}
 use Rattle.p4_declarations.specs.Flat.{SpellsFlat}
 use Rattle.p4_expr.specs.Expressions.{HasFewOperators}
 use Rattle.p4_statements.proofs.Ahead.{at_third, behind_first}
 use Rattle.p4_statements.proofs.Lists.{all_back, all_front}
-use Rattle.p4_parser.specs.Declarations.{SpellsControlParameters, SpellsDeclaration, SpellsParserParameters}
+use Rattle.p4_parser.specs.Declarations.{SpellsDeclaration}
 use Rattle.p4_parser.specs.ExpressionsIn.{expressions_of_decl, expressions_in}
 use Rattle.p4_parser.specs.Reading.{DeclHasFew, ProgramHasFew}
 

@@ -1,4 +1,3 @@
-use Rattle.std.proofs.Common.{refl}
 use Rattle.spelling.proofs.Limits.{or_answers, or_as, want_or}
 use Rattle.spelling.proofs.Only.{after, after_one, named_same, wants, wants_name, wants_one}
 use Rattle.spelling.proofs.Taking.{takes_both}

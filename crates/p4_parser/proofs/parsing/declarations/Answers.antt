@@ -4,7 +4,7 @@ use Rattle.std.proofs.lemmas.List.Elements.{All-nil}
 use Rattle.elastic_ast.specs.Seen.{seen_decl, seen_decls}
 use Rattle.spelling.proofs.Limits.{or_as, or_reads}
 use Rattle.spelling.proofs.Only.{after, not_there, wants}
-use Rattle.spelling.proofs.Taking.{all_taken, each_more, may, may_empty, spells_all}
+use Rattle.spelling.proofs.Taking.{all_taken, each_more, may, may_empty}
 use Rattle.spelling.proofs.Whole.{left_all, left_more, none_left, one_left}
 use Rattle.p4_expr.specs.Expressions.{HasFewOperators}
 use Rattle.p4_parser.specs.Declarations.{SpellsDeclaration, SpellsProgram}
