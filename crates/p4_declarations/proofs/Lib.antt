@@ -6,3 +6,4 @@ pub mod SameDecls
 pub mod Signs
 pub mod SumSpelling
 pub mod Terms
+pub mod FlatWithin

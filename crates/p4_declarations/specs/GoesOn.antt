@@ -2,10 +2,6 @@
 -- part is read whole.
 use Rattle.std.specs.Prelude.{ℕ, List, [], ◌∷◌, codes}
 
--- a name that follows may be that of a field without a size
-abbrev pub size_signs : List (List ℕ)
-size_signs = codes "[" ∷ []
-
 -- after a number a sign may follow with what it is times
 abbrev pub product_signs : List (List ℕ)
 product_signs = codes "*" ∷ []

@@ -1,6 +1,6 @@
 //! The deparser.
 
-ghost use Rattle.std.specs.Prelude.{ℕ, ◌≤◌, List, codes, IfOk, OnOk};
+ghost use Rattle.std.specs.Prelude.{ℕ, ◌≤◌, List, codes, IfOk, OnOk, IfErr};
 ghost use Rattle.elastic_ast.specs.Seen.{seen_decl};
 ghost use Rattle.elastic_ast.specs.Tree.{PlainDecl};
 ghost use Rattle.spelling.specs.Words.{Word};
@@ -8,6 +8,7 @@ ghost use Rattle.spelling.specs.Grammar.{◌⨟◌, Each, Sign, Named, Begins, I
 ghost use Rattle.spelling.specs.Reading.{ahead, Takes, MayTake, IsAnswer, IsReading};
 ghost use Rattle.p4_expr.specs.Parts.{SpellsHeader};
 ghost use Rattle.p4_declarations.specs.Flat.{SpellsDeparserParameters, SpellsEmit, SpellsFlat};
+ghost use Rattle.spelling.specs.Bounds.{IfTooDeep, IsNeverDeep, Opens, OpensNext, Stops};
 
 use elastic_ast::Decl;
 use elx_bits::{Items, Name};
@@ -19,6 +20,7 @@ use std::alloc::Global;
 pub fn deparser(alloc: Global, reader: &mut Reader<'_>, depth: u32) -> Result<Decl, SyntaxError>
     ensures taken { IfOk result (λ decl. Takes (SpellsFlat depth (seen_decl decl)) (ahead reader.old) (ahead reader.new)) }
     ensures only { (more : ℕ) (name : List ℕ) (emits : List (List ℕ)) (rest : List Word) → MayTake (SpellsFlat more (PlainDecl.Deparser name emits)) (ahead reader.old) rest → IsReading (more ≤ depth) seen_decl (PlainDecl.Deparser name emits) rest (ahead reader.new) result }
+    ensures deep { IfErr result (IfTooDeep (Stops (Opens depth) OpensNext (ahead reader.old) (ahead reader.new))) }
 {
     reader.reserved(b"control")?;
     let name = reader.name(alloc)?;
@@ -31,6 +33,7 @@ pub fn deparser(alloc: Global, reader: &mut Reader<'_>, depth: u32) -> Result<De
 fn parameters(reader: &mut Reader<'_>, depth: u32) -> Result<(), SyntaxError>
     ensures taken { OnOk result (Takes (Bracketed (codes "(") (codes ")") depth (λ _. SpellsDeparserParameters)) (ahead reader.old) (ahead reader.new)) }
     ensures only { (more : ℕ) (rest : List Word) → MayTake (Bracketed (codes "(") (codes ")") more (λ _. SpellsDeparserParameters)) (ahead reader.old) rest → IsReading (more ≤ depth) (λ read. read) tt rest (ahead reader.new) result }
+    ensures deep { IfErr result (IfTooDeep (Stops (Opens depth) OpensNext (ahead reader.old) (ahead reader.new))) }
 {
     let _inner = reader.open(b"(", depth)?;
     parameter_words(reader)?;
@@ -42,6 +45,7 @@ fn parameters(reader: &mut Reader<'_>, depth: u32) -> Result<(), SyntaxError>
 fn parameter_words(reader: &mut Reader<'_>) -> Result<(), SyntaxError>
     ensures taken { OnOk result (Takes SpellsDeparserParameters (ahead reader.old) (ahead reader.new)) }
     ensures only { (rest : List Word) → MayTake SpellsDeparserParameters (ahead reader.old) rest → IsAnswer (λ read. read) tt rest (ahead reader.new) result }
+    ensures shallow { IfErr result IsNeverDeep }
 {
     reader.fixed_name(b"packet_out")?;
     reader.fixed_name(b"pkt")?;
@@ -56,6 +60,7 @@ fn parameter_words(reader: &mut Reader<'_>) -> Result<(), SyntaxError>
 fn body(alloc: Global, reader: &mut Reader<'_>, depth: u32) -> Result<Items<Name>, SyntaxError>
     ensures taken { IfOk result (λ emits. Takes (Bracketed (codes "{") (codes "}") depth (λ inner. Named (codes "apply") ⨟ Bracketed (codes "{") (codes "}") inner (λ innermost. Each (SpellsEmit innermost) emits))) (ahead reader.old) (ahead reader.new)) }
     ensures only { (more : ℕ) (emits : List (List ℕ)) (rest : List Word) → MayTake (Bracketed (codes "{") (codes "}") more (λ inner. Named (codes "apply") ⨟ Bracketed (codes "{") (codes "}") inner (λ innermost. Each (SpellsEmit innermost) emits))) (ahead reader.old) rest → IsReading (more ≤ depth) (λ read. read) emits rest (ahead reader.new) result }
+    ensures deep { IfErr result (IfTooDeep (Stops (Opens depth) OpensNext (ahead reader.old) (ahead reader.new))) }
 {
     let inner = reader.open(b"{", depth)?;
     reader.fixed_name(b"apply")?;
@@ -72,6 +77,7 @@ fn emit_block(
 ) -> Result<Items<Name>, SyntaxError>
     ensures taken { IfOk result (λ emits. Takes (Bracketed (codes "{") (codes "}") depth (λ inner. Each (SpellsEmit inner) emits)) (ahead reader.old) (ahead reader.new)) }
     ensures only { (more : ℕ) (emits : List (List ℕ)) (rest : List Word) → MayTake (Bracketed (codes "{") (codes "}") more (λ inner. Each (SpellsEmit inner) emits)) (ahead reader.old) rest → IsReading (more ≤ depth) (λ read. read) emits rest (ahead reader.new) result }
+    ensures deep { IfErr result (IfTooDeep (Stops (Opens depth) OpensNext (ahead reader.old) (ahead reader.new))) }
 {
     let inner = reader.open(b"{", depth)?;
     let emits = emits(alloc, reader, inner)?;
@@ -83,6 +89,7 @@ fn emit_block(
 fn emits(alloc: Global, reader: &mut Reader<'_>, depth: u32) -> Result<Items<Name>, SyntaxError>
     ensures taken { IfOk result (λ emits. MayTake (Each (SpellsEmit depth) emits) (ahead reader.old) (ahead reader.new)) }
     ensures only { (more : ℕ) (emits : List (List ℕ)) (rest : List Word) → MayTake (Each (SpellsEmit more) emits) (ahead reader.old) rest → Begins (IsSign (codes "}")) rest → IsReading (more ≤ depth) (λ read. read) emits rest (ahead reader.new) result }
+    ensures deep { IfErr result (IfTooDeep (Stops (Opens depth) OpensNext (ahead reader.old) (ahead reader.new))) }
 {
     let mut emits = Items::new(alloc);
     'emits: while !reader.is_at_sign(b"}") {
@@ -96,6 +103,7 @@ fn emits(alloc: Global, reader: &mut Reader<'_>, depth: u32) -> Result<Items<Nam
 fn emit(alloc: Global, reader: &mut Reader<'_>, depth: u32) -> Result<Name, SyntaxError>
     ensures taken { IfOk result (λ header. Takes (SpellsEmit depth header) (ahead reader.old) (ahead reader.new)) }
     ensures only { (more : ℕ) (header : List ℕ) (rest : List Word) → MayTake (SpellsEmit more header) (ahead reader.old) rest → IsReading (more ≤ depth) (λ read. read) header rest (ahead reader.new) result }
+    ensures deep { IfErr result (IfTooDeep (Stops (Opens depth) OpensNext (ahead reader.old) (ahead reader.new))) }
 {
     reader.fixed_name(b"pkt")?;
     reader.sign(b".")?;
@@ -109,6 +117,7 @@ fn emit(alloc: Global, reader: &mut Reader<'_>, depth: u32) -> Result<Name, Synt
 fn emitted(alloc: Global, reader: &mut Reader<'_>, depth: u32) -> Result<Name, SyntaxError>
     ensures taken { IfOk result (λ header. Takes (Bracketed (codes "(") (codes ")") depth (λ _. SpellsHeader header)) (ahead reader.old) (ahead reader.new)) }
     ensures only { (more : ℕ) (header : List ℕ) (rest : List Word) → MayTake (Bracketed (codes "(") (codes ")") more (λ _. SpellsHeader header)) (ahead reader.old) rest → IsReading (more ≤ depth) (λ read. read) header rest (ahead reader.new) result }
+    ensures deep { IfErr result (IfTooDeep (Stops (Opens depth) OpensNext (ahead reader.old) (ahead reader.new))) }
 {
     let _inner = reader.open(b"(", depth)?;
     let header = header(alloc, reader)?;

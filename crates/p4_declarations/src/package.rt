@@ -1,6 +1,6 @@
 //! The package of the program: its parser, control and deparser.
 
-ghost use Rattle.std.specs.Prelude.{ℕ, ◌≤◌, List, codes, IfOk};
+ghost use Rattle.std.specs.Prelude.{ℕ, ◌≤◌, List, codes, IfOk, IfErr};
 ghost use Rattle.elastic_ast.specs.Seen.{seen_decl};
 ghost use Rattle.elastic_ast.specs.Tree.{PlainDecl};
 ghost use Rattle.spelling.specs.Words.{Word};
@@ -8,6 +8,7 @@ ghost use Rattle.spelling.specs.Grammar.{◌⨟◌, Sign, Bracketed};
 ghost use Rattle.spelling.specs.Reading.{ahead, Takes, MayTake, IsReading};
 ghost use Rattle.p4_declarations.specs.Flat.{SpellsFlat, SpellsPart};
 ghost use Rattle.p4_declarations.specs.declared.package.Parts.{Parts};
+ghost use Rattle.spelling.specs.Bounds.{IfTooDeep, Opens, OpensNext, Stops};
 
 use elastic_ast::Decl;
 use elx_bits::Name;
@@ -27,6 +28,7 @@ struct Parts {
 pub fn package(alloc: Global, reader: &mut Reader<'_>, depth: u32) -> Result<Decl, SyntaxError>
     ensures taken { IfOk result (λ decl. Takes (SpellsFlat depth (seen_decl decl)) (ahead reader.old) (ahead reader.new)) }
     ensures only { (more : ℕ) (parser control deparser : List ℕ) (rest : List Word) → MayTake (SpellsFlat more (PlainDecl.Main parser control deparser)) (ahead reader.old) rest → IsReading (more ≤ depth) seen_decl (PlainDecl.Main parser control deparser) rest (ahead reader.new) result }
+    ensures deep { IfErr result (IfTooDeep (Stops (Opens depth) OpensNext (ahead reader.old) (ahead reader.new))) }
 {
     reader.fixed_name(b"Pisa")?;
     let parts = part_list(alloc, reader, depth)?;
@@ -43,6 +45,7 @@ pub fn package(alloc: Global, reader: &mut Reader<'_>, depth: u32) -> Result<Dec
 fn part_list(alloc: Global, reader: &mut Reader<'_>, depth: u32) -> Result<Parts, SyntaxError>
     ensures taken { IfOk result (λ parts. Takes (Bracketed (codes "(") (codes ")") depth (λ inner. SpellsPart inner parts.parser ⨟ Sign (codes ",") ⨟ SpellsPart inner parts.control ⨟ Sign (codes ",") ⨟ SpellsPart inner parts.deparser)) (ahead reader.old) (ahead reader.new)) }
     ensures only { (more : ℕ) (parts : Parts) (rest : List Word) → MayTake (Bracketed (codes "(") (codes ")") more (λ inner. SpellsPart inner parts.parser ⨟ Sign (codes ",") ⨟ SpellsPart inner parts.control ⨟ Sign (codes ",") ⨟ SpellsPart inner parts.deparser)) (ahead reader.old) rest → IsReading (more ≤ depth) (λ read. read) parts rest (ahead reader.new) result }
+    ensures deep { IfErr result (IfTooDeep (Stops (Opens depth) OpensNext (ahead reader.old) (ahead reader.new))) }
 {
     let inner = reader.open(b"(", depth)?;
     let parts = three_parts(alloc, reader, inner)?;
@@ -54,6 +57,7 @@ fn part_list(alloc: Global, reader: &mut Reader<'_>, depth: u32) -> Result<Parts
 fn three_parts(alloc: Global, reader: &mut Reader<'_>, depth: u32) -> Result<Parts, SyntaxError>
     ensures taken { IfOk result (λ parts. Takes (SpellsPart depth parts.parser ⨟ Sign (codes ",") ⨟ SpellsPart depth parts.control ⨟ Sign (codes ",") ⨟ SpellsPart depth parts.deparser) (ahead reader.old) (ahead reader.new)) }
     ensures only { (more : ℕ) (parts : Parts) (rest : List Word) → MayTake (SpellsPart more parts.parser ⨟ Sign (codes ",") ⨟ SpellsPart more parts.control ⨟ Sign (codes ",") ⨟ SpellsPart more parts.deparser) (ahead reader.old) rest → IsReading (more ≤ depth) (λ read. read) parts rest (ahead reader.new) result }
+    ensures deep { IfErr result (IfTooDeep (Stops (Opens depth) OpensNext (ahead reader.old) (ahead reader.new))) }
 {
     let parser = part(alloc, reader, depth)?;
     reader.sign(b",")?;
@@ -71,6 +75,7 @@ fn three_parts(alloc: Global, reader: &mut Reader<'_>, depth: u32) -> Result<Par
 fn part(alloc: Global, reader: &mut Reader<'_>, depth: u32) -> Result<Name, SyntaxError>
     ensures taken { IfOk result (λ name. Takes (SpellsPart depth name) (ahead reader.old) (ahead reader.new)) }
     ensures only { (more : ℕ) (name : List ℕ) (rest : List Word) → MayTake (SpellsPart more name) (ahead reader.old) rest → IsReading (more ≤ depth) (λ read. read) name rest (ahead reader.new) result }
+    ensures deep { IfErr result (IfTooDeep (Stops (Opens depth) OpensNext (ahead reader.old) (ahead reader.new))) }
 {
     let name = reader.name(alloc)?;
     no_arguments(reader, depth)?;

@@ -1,9 +1,10 @@
-ghost use Rattle.std.specs.Prelude.{ℕ, ◌≤◌, List, IfOk};
+ghost use Rattle.std.specs.Prelude.{ℕ, ◌≤◌, List, IfOk, IfErr};
 ghost use Rattle.elastic_ast.specs.Seen.{seen_decl};
 ghost use Rattle.elastic_ast.specs.Tree.{PlainDecl};
 ghost use Rattle.spelling.specs.Words.{Word};
 ghost use Rattle.spelling.specs.Reading.{ahead, Takes, MayTake, IsAnswer, IsReading};
 ghost use Rattle.p4_declarations.specs.Flat.{SpellsFlat};
+ghost use Rattle.spelling.specs.Bounds.{IfTooDeep, IsNeverDeep, Opens, OpensNext, Stops};
 
 use crate::emits::deparser;
 use crate::package::package;
@@ -22,6 +23,7 @@ use std::alloc::Global;
 pub fn flat(alloc: Global, reader: &mut Reader<'_>, depth: u32) -> Result<Decl, SyntaxError>
     ensures taken { IfOk result (λ decl. Takes (SpellsFlat depth (seen_decl decl)) (ahead reader.old) (ahead reader.new)) }
     ensures only { (more : ℕ) (decl : PlainDecl) (rest : List Word) → MayTake (SpellsFlat more decl) (ahead reader.old) rest → IsReading (more ≤ depth) seen_decl decl rest (ahead reader.new) result }
+    ensures deep { IfErr result (IfTooDeep (Stops (Opens depth) OpensNext (ahead reader.old) (ahead reader.new))) }
 {
     if reader.is_at_reserved(b"symbolic") {
         return symbol(alloc, reader);
@@ -60,6 +62,7 @@ pub fn flat(alloc: Global, reader: &mut Reader<'_>, depth: u32) -> Result<Decl, 
 fn include(reader: &mut Reader<'_>) -> Result<Decl, SyntaxError>
     ensures taken { IfOk result (λ decl. (depth : ℕ) → Takes (SpellsFlat depth (seen_decl decl)) (ahead reader.old) (ahead reader.new)) }
     ensures only { (depth : ℕ) (file : ℕ) (rest : List Word) → MayTake (SpellsFlat depth (PlainDecl.Include file)) (ahead reader.old) rest → IsAnswer seen_decl (PlainDecl.Include file) rest (ahead reader.new) result }
+    ensures shallow { IfErr result IsNeverDeep }
 {
     let file = reader.include()?;
     Ok(Decl::Include(file))

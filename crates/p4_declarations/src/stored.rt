@@ -1,6 +1,6 @@
 //! Constants and registers.
 
-ghost use Rattle.std.specs.Prelude.{◌≡◌, ℕ, ◌≤◌, List, Option, codes, IfOk};
+ghost use Rattle.std.specs.Prelude.{◌≡◌, ℕ, ◌≤◌, List, Option, codes, IfOk, IfErr};
 ghost use Rattle.elastic_ast.specs.Seen.{seen_decl};
 ghost use Rattle.elastic_ast.specs.Tree.{PlainDecl};
 ghost use Rattle.elastic_ast.specs.declared.statements.Amount.{Amount};
@@ -9,6 +9,7 @@ ghost use Rattle.spelling.specs.Grammar.{Bracketed};
 ghost use Rattle.spelling.specs.Reading.{ahead, Takes, MayTake, IsAnswer, IsReading};
 ghost use Rattle.p4_expr.specs.Parts.{SpellsAmount};
 ghost use Rattle.p4_declarations.specs.Flat.{SpellsConstant, SpellsFlat};
+ghost use Rattle.spelling.specs.Bounds.{IfTooDeep, IsNeverDeep, Opens, OpensNext, Stops};
 
 use elastic_ast::{Amount, Decl};
 use p4_expr::{amount, bits, index, number};
@@ -19,6 +20,7 @@ use std::alloc::Global;
 pub fn constant(alloc: Global, reader: &mut Reader<'_>) -> Result<Decl, SyntaxError>
     ensures taken { IfOk result (λ decl. (depth : ℕ) → Takes (SpellsFlat depth (seen_decl decl)) (ahead reader.old) (ahead reader.new)) }
     ensures only { (depth : ℕ) (name : List ℕ) (width : ℕ) (value : ℕ) (rest : List Word) → MayTake (SpellsFlat depth (PlainDecl.Const name width value)) (ahead reader.old) rest → IsAnswer seen_decl (PlainDecl.Const name width value) rest (ahead reader.new) result }
+    ensures shallow { IfErr result IsNeverDeep }
 {
     reader.reserved(b"const")?;
     let width = bits(reader)?;
@@ -33,6 +35,7 @@ pub fn constant(alloc: Global, reader: &mut Reader<'_>) -> Result<Decl, SyntaxEr
 fn constant_value(reader: &mut Reader<'_>, width: u8) -> Result<u128, SyntaxError>
     ensures taken { IfOk result (λ value. Takes (SpellsConstant width value) (ahead reader.old) (ahead reader.new)) }
     ensures only { (of value : ℕ) (rest : List Word) → MayTake (SpellsConstant of value) (ahead reader.old) rest → of ≡ width → IsAnswer (λ read. read) value rest (ahead reader.new) result }
+    ensures shallow { IfErr result IsNeverDeep }
 {
     let refusal = reader.refusal();
     let (own_width, value) = number(reader)?;
@@ -48,6 +51,7 @@ fn constant_value(reader: &mut Reader<'_>, width: u8) -> Result<u128, SyntaxErro
 pub fn register(alloc: Global, reader: &mut Reader<'_>, depth: u32) -> Result<Decl, SyntaxError>
     ensures taken { IfOk result (λ decl. Takes (SpellsFlat depth (seen_decl decl)) (ahead reader.old) (ahead reader.new)) }
     ensures only { (more : ℕ) (name : List ℕ) (width : ℕ) (cells : Amount) (size : Option (List ℕ)) (rest : List Word) → MayTake (SpellsFlat more (PlainDecl.Register name width cells size)) (ahead reader.old) rest → IsReading (more ≤ depth) seen_decl (PlainDecl.Register name width cells size) rest (ahead reader.new) result }
+    ensures deep { IfErr result (IfTooDeep (Stops (Opens depth) OpensNext (ahead reader.old) (ahead reader.new))) }
 {
     reader.fixed_name(b"Register")?;
     reader.sign(b"<")?;
@@ -69,6 +73,7 @@ pub fn register(alloc: Global, reader: &mut Reader<'_>, depth: u32) -> Result<De
 fn register_cells(alloc: Global, reader: &mut Reader<'_>, depth: u32) -> Result<Amount, SyntaxError>
     ensures taken { IfOk result (λ cells. Takes (Bracketed (codes "(") (codes ")") depth (λ _. SpellsAmount cells)) (ahead reader.old) (ahead reader.new)) }
     ensures only { (more : ℕ) (cells : Amount) (rest : List Word) → MayTake (Bracketed (codes "(") (codes ")") more (λ _. SpellsAmount cells)) (ahead reader.old) rest → IsReading (more ≤ depth) (λ read. read) cells rest (ahead reader.new) result }
+    ensures deep { IfErr result (IfTooDeep (Stops (Opens depth) OpensNext (ahead reader.old) (ahead reader.new))) }
 {
     let _inner = reader.open(b"(", depth)?;
     let cells = amount(alloc, reader)?;

@@ -1,6 +1,6 @@
 //! Sums of terms, and comparisons of sums.
 
-ghost use Rattle.std.specs.Prelude.{◌≡◌, Bool, List, IfOk, IfSome, Some, None};
+ghost use Rattle.std.specs.Prelude.{◌≡◌, Bool, List, IfOk, IfSome, Some, None, IfErr};
 ghost use Rattle.elastic_ast.specs.declared.declarations.Comp.{Comp};
 ghost use Rattle.elastic_ast.specs.declared.declarations.LinTerm.{LinTerm};
 ghost use Rattle.elastic_ast.specs.declared.declarations.Rel.{Rel};
@@ -8,6 +8,7 @@ ghost use Rattle.spelling.specs.Words.{Word};
 ghost use Rattle.spelling.specs.Reading.{ahead, Takes, MayTake, Ends, IsAnswer};
 ghost use Rattle.p4_declarations.specs.GoesOn.{product_signs, sum_signs, comparison_signs};
 ghost use Rattle.p4_declarations.specs.Sums.{SpellsProduct, SpellsSign, SpellsSum, SpellsRelation, SpellsComparison, SpellsComparisons};
+ghost use Rattle.spelling.specs.Bounds.{IsNeverDeep};
 
 use elastic_ast::{Comp, LinTerm, Rel};
 use elx_bits::Items;
@@ -18,6 +19,7 @@ use std::alloc::Global;
 pub fn comparisons(alloc: Global, reader: &mut Reader<'_>) -> Result<Items<Comp>, SyntaxError>
     ensures taken { IfOk result (λ comps. Takes (SpellsComparisons comps) (ahead reader.old) (ahead reader.new)) }
     ensures only { (comps : List Comp) (rest : List Word) → MayTake (SpellsComparisons comps) (ahead reader.old) rest → Ends comparison_signs rest → IsAnswer (λ read. read) comps rest (ahead reader.new) result }
+    ensures shallow { IfErr result IsNeverDeep }
 {
     let mut comps = Items::new(alloc);
     let first = comparison(alloc, reader)?;
@@ -33,6 +35,7 @@ pub fn comparisons(alloc: Global, reader: &mut Reader<'_>) -> Result<Items<Comp>
 fn comparison(alloc: Global, reader: &mut Reader<'_>) -> Result<Comp, SyntaxError>
     ensures taken { IfOk result (λ comp. Takes (SpellsComparison comp) (ahead reader.old) (ahead reader.new)) }
     ensures only { (comp : Comp) (rest : List Word) → MayTake (SpellsComparison comp) (ahead reader.old) rest → Ends sum_signs rest → IsAnswer (λ read. read) comp rest (ahead reader.new) result }
+    ensures shallow { IfErr result IsNeverDeep }
 {
     let left = sum(alloc, reader)?;
     let rel = relation(reader)?;
@@ -44,6 +47,7 @@ fn comparison(alloc: Global, reader: &mut Reader<'_>) -> Result<Comp, SyntaxErro
 fn sum(alloc: Global, reader: &mut Reader<'_>) -> Result<Items<LinTerm>, SyntaxError>
     ensures taken { IfOk result (λ terms. Takes (SpellsSum terms) (ahead reader.old) (ahead reader.new)) }
     ensures only { (terms : List LinTerm) (rest : List Word) → MayTake (SpellsSum terms) (ahead reader.old) rest → Ends sum_signs rest → IsAnswer (λ read. read) terms rest (ahead reader.new) result }
+    ensures shallow { IfErr result IsNeverDeep }
 {
     let mut terms = Items::new(alloc);
     let first = term(alloc, reader, false)?;
@@ -60,6 +64,7 @@ pub fn term(alloc: Global, reader: &mut Reader<'_>, minus: bool) -> Result<LinTe
     ensures minus { IfOk result (λ term. term.minus ≡ minus) }
     ensures taken { IfOk result (λ term. Takes (SpellsProduct term.by term.symbol) (ahead reader.old) (ahead reader.new)) }
     ensures only { (term : LinTerm) (rest : List Word) → term.minus ≡ minus → MayTake (SpellsProduct term.by term.symbol) (ahead reader.old) rest → Ends product_signs rest → IsAnswer (λ read. read) term rest (ahead reader.new) result }
+    ensures shallow { IfErr result IsNeverDeep }
 {
     if !reader.is_at_number() {
         let symbol = Some(reader.name(alloc)?);
@@ -100,6 +105,7 @@ pub fn sign(reader: &mut Reader<'_>) -> Option<bool>
 fn relation(reader: &mut Reader<'_>) -> Result<Rel, SyntaxError>
     ensures taken { IfOk result (λ rel. Takes (SpellsRelation rel) (ahead reader.old) (ahead reader.new)) }
     ensures only { (rel : Rel) (rest : List Word) → MayTake (SpellsRelation rel) (ahead reader.old) rest → IsAnswer (λ read. read) rel rest (ahead reader.new) result }
+    ensures shallow { IfErr result IsNeverDeep }
 {
     if reader.eat_sign(b"<=") {
         return Ok(Rel::Le);

@@ -1,5 +1,5 @@
 -- The first words of each form of primary expressions.
-use Rattle.std.proofs.Common.{◌≡◌, ℕ, ◌+◌, true, false, List, Option, [], ◌∷◌, ◌++◌, codes, drop, refl, sym, ap, subst, ◌∙◌, bytes_eq, ◌⊎◌, inl, inr, IsTrue}
+use Rattle.std.proofs.Common.{◌≡◌, ℕ, ◌+◌, true, false, List, Option, [], ◌∷◌, codes, drop, refl, sym, ap, subst, ◌∙◌, bytes_eq, ◌⊎◌, inl, inr, IsTrue}
 use Rattle.std.proofs.lemmas.List.{drop-drop}
 use Rattle.std.proofs.lemmas.Bool.{false≢true}
 use Rattle.p4_lexer.specs.declared.token.Kind.{Kind}
@@ -10,23 +10,16 @@ use Rattle.elastic_ast.specs.Tree.{PlainExpr}
 use Rattle.spelling.specs.Words.{Word}
 use Rattle.spelling.specs.Grammar.{Grammar, ◌⨟◌, One, IsSign, IsNamed, IsReserved, Begins, is_number, is_reserved, is_sign}
 use Rattle.spelling.specs.Reading.{MayTake}
-use Rattle.spelling.proofs.Only.{alone, begins, begins_bracketed, begins_first, empty_same, not_sign, of_where, other_text, regroup, split}
+use Rattle.spelling.proofs.Only.{alone, begins, begins_bracketed, begins_first, behind_first, empty_same, not_sign, of_where, other_text, regroup}
 use Rattle.p4_expr.specs.Parts.{SpellsHeader, SpellsLval, SpellsIsValid}
 use Rattle.p4_expr.specs.Bases.{SpellsOwn, form_of}
 use Rattle.p4_expr.specs.Standing.{StandsTest, StandsHash}
 use Rattle.p4_expr.specs.declared.forms.Form.{Form}
 use Rattle.p4_expr.specs.declared.forms.Form.TheVariants as form
 
--- what follows the first word
-pub behind_word : {F : Word → Type 0} {Q : Grammar} {a c : List Word} → MayTake (One F ⨟ Q) a c → MayTake Q (drop 1 a) c
-behind_word {Q = Q} {c = c} m =
-    let s = split m in
-    let e = s.first.joined ∙ ap (λ ws. ws ++ s.between) s.first.spelled.alone in
-    subst (λ ws. MayTake Q ws c) (sym (ap (drop 1) e)) s.second
-
 -- and what follows the next
 pub behind_next : {F : Word → Type 0} {Q : Grammar} (n : ℕ) (a : List Word) {c : List Word} → MayTake (One F ⨟ Q) (drop n a) c → MayTake Q (drop (n + 1) a) c
-behind_next {Q = Q} n a {c = c} m = subst (λ ws. MayTake Q ws c) (drop-drop 1 n a) (behind_word m)
+behind_next {Q = Q} n a {c = c} m = subst (λ ws. MayTake Q ws c) (drop-drop 1 n a) (behind_first m)
 
 -- the words of a header
 pub record HeaderWords (Q : Grammar) (a c : List Word) : Type 0 where
@@ -37,7 +30,7 @@ pub record HeaderWords (Q : Grammar) (a c : List Word) : Type 0 where
 pub header_words : (name : List ℕ) (Q : Grammar) (a c : List Word) → MayTake (SpellsHeader name ⨟ Q) a c → HeaderWords Q a c
 header_words name Q a c m =
     let m0 = regroup m in
-    let m1 = regroup (behind_word m0) in
+    let m1 = regroup (behind_first m0) in
     record { header = begins_first m0; dot = begins_first m1; behind = behind_next 2 a (behind_next 1 a m1) }
 
 -- the words of a test of a header
@@ -50,9 +43,6 @@ test_words depth name a c m =
 -- no word has two texts
 pub two_names : (s t : List ℕ) (ws : List Word) → bytes_eq s t ≡ false → Begins (IsNamed s) ws → Begins (IsNamed t) ws → ⊥
 two_names s t ws differ b d = other_text s t ws differ (λ word h. h.1) (λ word h. h.1) b d
-
-pub two_signs : (s t : List ℕ) (ws : List Word) → bytes_eq s t ≡ false → Begins (IsSign s) ws → Begins (IsSign t) ws → ⊥
-two_signs s t ws differ b d = other_text s t ws differ (λ word h. h.1) (λ word h. h.1) b d
 
 -- the words of a place
 pub record LvalWords (a c : List Word) : Type 0 where
@@ -67,9 +57,9 @@ lval_words depth (lval.Header header field) a c m =
     let end : drop 5 a ≡ c = empty_same (behind_next 4 a (alone m4)) in
     record { first = inl w.header; dot = w.dot; test = λ h t. subst (Begins (IsSign (codes "("))) end t.2 }
 lval_words depth (lval.Meta name index) a c m =
-    record { first = inr (inl (begins_first m)); dot = begins_first (behind_word m); test = λ h t. absurd (two_names (codes "meta") (codes "hdr") a refl (begins_first m) h) }
+    record { first = inr (inl (begins_first m)); dot = begins_first (behind_first m); test = λ h t. absurd (two_names (codes "meta") (codes "hdr") a refl (begins_first m) h) }
 lval_words depth (lval.Std name) a c m =
-    record { first = inr (inr (begins_first m)); dot = begins_first (behind_word m); test = λ h t. absurd (two_names (codes "std") (codes "hdr") a refl (begins_first m) h) }
+    record { first = inr (inr (begins_first m)); dot = begins_first (behind_first m); test = λ h t. absurd (two_names (codes "std") (codes "hdr") a refl (begins_first m) h) }
 
 pub begins_name : (n : List ℕ) (a : List Word) → Begins (IsNamed n) a → Begins (λ word. word.kind ≡ kind.Name) a
 begins_name n [] b = b
@@ -109,14 +99,14 @@ pub by_name : (R : Form → Type 0) (depth : ℕ) (e : PlainExpr) {a c : List Wo
 by_name R depth (PlainExpr.Num width value) {a = a} m b name place test hash = absurd (name_no_number a (number_there _ _ a (begins (of_where m))) b)
 by_name R depth (PlainExpr.Truth true) {a = a} m b name place test hash = absurd (name_no_word _ a (begins m) b)
 by_name R depth (PlainExpr.Truth false) {a = a} m b name place test hash = absurd (name_no_word _ a (begins m) b)
-by_name R depth (PlainExpr.Named n) m b name place test hash = name (empty_same (behind_word (alone m)))
+by_name R depth (PlainExpr.Named n) m b name place test hash = name (empty_same (behind_first (alone m)))
 by_name R depth (PlainExpr.At l) {a = a} {c = c} m b name place test hash = place (lval_words depth l a c m)
 by_name R depth (PlainExpr.IsValid header) {a = a} {c = c} m b name place test hash = test (test_words depth header a c m)
 by_name R depth (PlainExpr.Unary op of) m b name place test hash = absurd m.spelled
 by_name R depth (PlainExpr.Binary op left right) m b name place test hash = absurd m.spelled
 by_name R depth (PlainExpr.Cast width of) m b name place test hash = absurd m.spelled
 by_name R depth (PlainExpr.Slice of high low) m b name place test hash = absurd m.spelled
-by_name R depth (PlainExpr.Hash k of modulus) m b name place test hash = hash (begins_first m, begins_bracketed _ _ depth _ (behind_word m))
+by_name R depth (PlainExpr.Hash k of modulus) m b name place test hash = hash (begins_first m, begins_bracketed _ _ depth _ (behind_first m))
 
 pub name_no_sign : (t : List ℕ) (a : List Word) → Begins (λ word. word.kind ≡ kind.Name) a → Begins (IsSign t) a → ⊥
 name_no_sign t a b s = not_sign t a (λ word h. ap is_sign h) b s

@@ -10,7 +10,6 @@ pub mod ManyPrefixes
 pub mod Levels
 pub mod PartSpelling
 pub mod OperatorSigns
-pub mod PlaceBehind
 pub mod Refusing
 pub mod Prefixes
 pub mod StepsLeft
@@ -24,3 +23,7 @@ pub mod Counting
 pub mod FormCases
 pub mod FormWords
 pub mod PieceSpelling
+pub mod InLines
+pub mod Bound
+pub mod PassingLaws
+pub mod LinesAhead

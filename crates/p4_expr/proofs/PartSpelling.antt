@@ -1,6 +1,5 @@
 -- What the spelling of a part of an expression leaves no choice of.
-use Rattle.std.proofs.Common.{◌≡◌, ℕ, zero, suc, ◌<◌, ◌^◌, true, false, bytes_eq, IsTrue, List, [], ◌∷◌, drop, Option, Some, None, codes, refl, ap, sym, subst, ◌∙◌}
-use Rattle.p4_lexer.specs.declared.token.Kind.{Kind}
+use Rattle.std.proofs.Common.{◌≡◌, ℕ, zero, suc, ◌<◌, ◌^◌, true, false, bytes_eq, IsTrue, List, drop, Option, Some, None, codes, refl, ap, sym, subst, ◌∙◌}
 use Rattle.p4_lexer.specs.declared.token.Kind.TheVariants as kind
 use Rattle.elastic_ast.specs.declared.statements.Amount.{Amount}
 use Rattle.elastic_ast.specs.declared.statements.Amount.TheVariants as amount
@@ -8,9 +7,10 @@ use Rattle.elastic_ast.specs.declared.statements.Lval.{Lval}
 use Rattle.elastic_ast.specs.declared.statements.Lval.TheVariants as lval
 use Rattle.elastic_ast.specs.declared.statements.RegRef.{RegRef}
 use Rattle.spelling.specs.Words.{Word}
-use Rattle.spelling.specs.Grammar.{Grammar, ◌⨟◌, One, Named, Num, Begins, Bracketed, IsNamed, IsSign, IsNum, is_number}
+use Rattle.spelling.specs.Grammar.{Named, Num, Begins, Bracketed, IsNamed, IsSign, IsNum, is_number}
 use Rattle.spelling.specs.Reading.{MayTake}
-use Rattle.spelling.proofs.Only.{begins, begins_as, begins_both, begins_bracketed, begins_first, empty_same, fact_of, of_where, opened, other_text, split}
+use Rattle.spelling.proofs.Peeling.{begins_second}
+use Rattle.spelling.proofs.Only.{begins, begins_as, begins_both, begins_bracketed, begins_first, empty_same, fact_of, of_where, other_text, split}
 use Rattle.p4_expr.specs.Parts.{SpellsAmount, SpellsIndex, SpellsLval}
 use Rattle.p4_expr.specs.GoesOn.{EndsIndex}
 
@@ -37,16 +37,9 @@ pub amount_number : (of : Amount) {a c : List Word} → MayTake (SpellsAmount of
 amount_number (amount.Num value) m at = (value, refl, fact_of m, of_where m)
 amount_number (amount.Named name) {a = a} m at = absurd (name_no_number a (named_kind m) at)
 
--- the second of two words
-pub second_begins : {F G : Word → Type 0} {Q : Grammar} {a c : List Word} → MayTake (One F ⨟ One G ⨟ Q) a c → Begins G (drop 1 a)
-second_begins {G = G} m =
-    let s = split m in
-    let e = opened s.first in
-    subst (λ ws. Begins G (drop 1 ws)) (sym e) (begins_first s.second)
-
 index_begins : (more : ℕ) (name : List ℕ) {a c : List Word} → MayTake (Bracketed (codes "[") (codes "]") more (λ _. Named name)) a c → Begins (λ word. word.kind ≡ kind.Name) (drop 1 a)
 index_begins zero name m = absurd m.spelled
-index_begins (suc more) name {a = a} m = begins_as (λ word h. h.0) (drop 1 a) (second_begins m)
+index_begins (suc more) name {a = a} m = begins_as (λ word h. h.0) (drop 1 a) (begins_second a m)
 
 -- where no bracket stands that begins an index, there is none
 pub index_missing : (more : ℕ) (index : Option (List ℕ)) {a rest : List Word} → MayTake (SpellsIndex more index) a rest → EndsIndex a → (None ≡ index) × (a ≡ rest)

@@ -6,14 +6,14 @@ use Rattle.elastic_ast.specs.Operators.{Operator, Or, And, Equal, Differ, Less, 
 use Rattle.spelling.specs.Words.{Word}
 use Rattle.spelling.specs.Grammar.{Grammar, ◌⨟◌, IsSign, Begins}
 use Rattle.spelling.specs.Reading.{Takes, MayTake}
-use Rattle.spelling.proofs.Only.{begins_bracketed, begins_first, ends_sign, not_sign, of_where, reserved_no_sign, split}
+use Rattle.spelling.proofs.Only.{begins_bracketed, begins_first, behind_first, ends_sign, not_sign, of_where, reserved_no_sign, split}
 use Rattle.spelling.proofs.Taking.{may, takes_both}
 use Rattle.p4_expr.specs.Operators.{IsOperator, SpellsOperator, level_of, operators_in}
 use Rattle.p4_expr.specs.Parts.{SpellsCast}
 use Rattle.p4_expr.specs.Expressions.{SpellsExpr, SpellsPrefixed, SpellsPrimary}
 use Rattle.p4_expr.specs.Bases.{SpellsOwn, SpellsInBrackets, SpellsBase}
 use Rattle.p4_expr.specs.Standing.{NoneStands, Passes, Stands, StandsCast}
-use Rattle.p4_expr.proofs.FormWords.{behind_word, name_no_sign, number_no_sign, own_first}
+use Rattle.p4_expr.proofs.FormWords.{name_no_sign, number_no_sign, own_first}
 use Rattle.p4_expr.proofs.OperatorsAhead.{first_text, same_code, same_operator, stands_text}
 use Rattle.p4_expr.proofs.LevelParts.{level_starts, prefixed_starts}
 use Rattle.p4_expr.proofs.LevelSteps.{after_operator, stands_alone, stands_there}
@@ -80,7 +80,7 @@ cast_stands : (depth width : ℕ) {Q : Grammar} {a c : List Word} → MayTake (S
 cast_stands zero width m = absurd (split m).first.spelled
 cast_stands (suc depth) width m =
     let s = split m in
-    let inner = split (behind_word s.first) in
+    let inner = split (behind_first s.first) in
     (begins_first s.first, begins_first (of_where inner.first))
 
 own_no_opening : (depth : ℕ) (e : PlainExpr) {a c : List Word} → MayTake (SpellsOwn depth e) a c → Begins (IsSign (codes "(")) a → ⊥
@@ -93,7 +93,7 @@ own_no_opening depth e {a = a} m b =
 brackets_no_cast : (depth : ℕ) (e : PlainExpr) {a c : List Word} → MayTake (SpellsInBrackets depth e) a c → StandsCast a → ⊥
 brackets_no_cast zero e m s = m.spelled
 brackets_no_cast (suc depth) e {a = a} m s =
-    let inner = split (behind_word m) in
+    let inner = split (behind_first m) in
     never_both (drop 1 a) (λ word start is. start.no_bit is) (begins_taken IsStart (SpellsExpr depth e) (λ ws h. level_starts h) inner.first) s.1
 
 base_no_cast : (depth : ℕ) (e : PlainExpr) (front a c : List Word) → a ≡ front ++ c → SpellsBase depth e front → StandsCast a → ⊥

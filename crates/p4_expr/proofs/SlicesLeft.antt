@@ -4,14 +4,13 @@ use Rattle.elastic_ast.specs.Tree.{PlainExpr}
 use Rattle.spelling.specs.Words.{Word}
 use Rattle.spelling.specs.Grammar.{Grammar, ◌⨟◌, Each, IsSign, Begins, IsNum, is_number}
 use Rattle.spelling.specs.Reading.{Takes, MayTake}
-use Rattle.spelling.proofs.Only.{begins_bracketed, begins_first, empty_same, of_where, split}
+use Rattle.spelling.proofs.Only.{begins_bracketed, begins_first, behind_first, empty_same, no_sign, of_where, split}
 use Rattle.spelling.proofs.Taking.{takes_both}
 use Rattle.p4_expr.specs.Parts.{SpellsBitRange}
 use Rattle.p4_expr.specs.Expressions.{SpellsPrimary}
 use Rattle.p4_expr.specs.Operators.{operators_in}
 use Rattle.p4_expr.specs.Bases.{SpellsOwn, SpellsInBrackets, SpellsBase}
-use Rattle.p4_expr.specs.Standing.{EndsBase, EndsLevel}
-use Rattle.p4_expr.proofs.FormWords.{behind_word, two_signs}
+use Rattle.p4_expr.specs.Standing.{EndsBase, EndsLevel, StandsSlice}
 use Rattle.p4_expr.proofs.Slices.{Bits, SpellsSlice, primary_parts, sliced}
 
 -- a base, and what stands behind it
@@ -51,14 +50,6 @@ next_of depth now e (bits ∷ later) whole m more = record { high = bits.0; low 
 pub next_slice : (depth : ℕ) (now e : PlainExpr) {a c : List Word} → SlicesLeft depth now e a c → Begins (IsSign (codes "[")) a → (Begins (IsSign (codes "[")) c → ⊥) → NextSlice depth now e a c
 next_slice depth now e l at none = next_of depth now e l.slices l.whole l.ahead (λ same. none (subst (Begins (IsSign (codes "["))) same at))
 
-none_of : (depth : ℕ) (now e : PlainExpr) (slices : List Bits) {a c : List Word} → e ≡ sliced now slices → MayTake (Each (SpellsSlice depth) slices) a c → (Begins (IsSign (codes "[")) a → ⊥) → (now ≡ e) × (a ≡ c)
-none_of depth now e [] whole m none = (sym whole, empty_same m)
-none_of depth now e (bits ∷ later) whole m none = absurd (none (slice_begins depth bits m))
-
--- where none opens, all are read
-pub no_slice : (depth : ℕ) (now e : PlainExpr) {a c : List Word} → SlicesLeft depth now e a c → (Begins (IsSign (codes "[")) a → ⊥) → (now ≡ e) × (a ≡ c)
-no_slice depth now e l none = none_of depth now e l.slices l.whole l.ahead none
-
 -- what is read has no more operators than the whole
 sliced_count : (now : PlainExpr) (slices : List Bits) → operators_in now ≤ operators_in (sliced now slices)
 unfolding operators_in
@@ -80,9 +71,17 @@ numbered value (word ∷ ws) b = ap is_number b
 range_number : (depth high low : ℕ) {Q : Grammar} {a c : List Word} → MayTake (SpellsBitRange depth high low ⨟ Q) a c → Begins (λ word. IsTrue (is_number word.kind)) (drop 1 a)
 range_number zero high low m = absurd (split m).first.spelled.1
 range_number (suc depth) high low {a = a} m =
-    let inner = behind_word (of_where (split m).first) in
+    let inner = behind_first (of_where (split m).first) in
     let begin = begins_first (split inner).first in
     numbered high (drop 1 a) begin
+
+none_of : (depth : ℕ) (now e : PlainExpr) (slices : List Bits) {a c : List Word} → e ≡ sliced now slices → MayTake (Each (SpellsSlice depth) slices) a c → (StandsSlice a → ⊥) → (now ≡ e) × (a ≡ c)
+none_of depth now e [] whole m none = (sym whole, empty_same m)
+none_of depth now e (bits ∷ later) whole m none = absurd (none (slice_begins depth bits m, range_number depth bits.0 bits.1 m))
+
+-- where none goes on, all are read
+pub no_slice : (depth : ℕ) (now e : PlainExpr) {a c : List Word} → SlicesLeft depth now e a c → (StandsSlice a → ⊥) → (now ≡ e) × (a ≡ c)
+no_slice depth now e l none = none_of depth now e l.slices l.whole l.ahead none
 
 -- behind a base only a slice may go on
 pub ends_base : (depth : ℕ) (slices : List Bits) {a c : List Word} → MayTake (Each (SpellsSlice depth) slices) a c → EndsLevel 0 c → EndsBase a
@@ -93,8 +92,8 @@ ends_base depth [] m ends = let same = empty_same m in record {
 }
 ends_base depth (bits ∷ later) {a = a} m ends = let at = slice_begins depth bits m in record {
   index = λ b. range_number depth bits.0 bits.1 m;
-  place = λ b. two_signs (codes "[") (codes ".") a refl at b;
-  call = λ b. two_signs (codes "[") (codes "(") a refl at b;
+  place = λ b. no_sign (codes "[") (codes ".") a refl at b;
+  call = λ b. no_sign (codes "[") (codes "(") a refl at b;
 }
 
 -- a base is a primary expression

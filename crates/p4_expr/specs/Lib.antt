@@ -6,3 +6,4 @@ pub mod GoesOn
 pub mod Standing
 pub mod Bases
 pub mod ExprAt
+pub mod Passing

@@ -1,8 +1,8 @@
 -- What stands next where an expression of a level may end or go on, this project's own.
-use Rattle.std.specs.Prelude.{◌≡◌, ℕ, ◌<◌, ◌≤◌, List, codes, drop}
+use Rattle.std.specs.Prelude.{◌≡◌, ℕ, ◌<◌, ◌≤◌, IsTrue, List, codes, drop}
 use Rattle.elastic_ast.specs.Operators.{Operator, ShiftDown, NoOperator}
 use Rattle.spelling.specs.Words.{Word}
-use Rattle.spelling.specs.Grammar.{Begins, BeginTouching, IsSign, IsNamed, IsReserved}
+use Rattle.spelling.specs.Grammar.{Begins, BeginTouching, IsSign, IsNamed, IsReserved, is_number}
 use Rattle.spelling.specs.Reading.{Takes}
 use Rattle.p4_expr.specs.Operators.{IsOperator, SpellsOperator, level_of, text_of}
 use Rattle.p4_expr.specs.GoesOn.{EndsIndex}
@@ -47,3 +47,7 @@ StandsHash ws = Begins (IsNamed (codes "hash")) ws × Begins (IsSign (codes "(")
 -- a cast begins here, `(bit`
 abbrev pub StandsCast : List Word → Type 0
 StandsCast ws = Begins (IsSign (codes "(")) ws × Begins (IsReserved (codes "bit")) (drop 1 ws)
+
+-- a slice goes on here, `[` and a number
+abbrev pub StandsSlice : List Word → Type 0
+StandsSlice ws = Begins (IsSign (codes "[")) ws × Begins (λ word. IsTrue (is_number word.kind)) (drop 1 ws)

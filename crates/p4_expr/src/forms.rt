@@ -1,11 +1,11 @@
 //! The forms of primary expressions, by the words that begin them.
 
-ghost use Rattle.std.specs.Prelude.{◌≡◌, ◌↔◌, ℕ, List, IsTrue};
+ghost use Rattle.std.specs.Prelude.{◌≡◌, ◌↔◌, ℕ, List, IsTrue, codes};
 ghost use Rattle.elastic_ast.specs.Tree.{PlainExpr};
 ghost use Rattle.spelling.specs.Words.{Word};
-ghost use Rattle.spelling.specs.Grammar.{Begins};
+ghost use Rattle.spelling.specs.Grammar.{Begins, IsNamed};
 ghost use Rattle.spelling.specs.Reading.{ahead, MayTake};
-ghost use Rattle.p4_expr.specs.Standing.{EndsBase, StandsTest, StandsHash, StandsCast};
+ghost use Rattle.p4_expr.specs.Standing.{EndsBase, StandsTest, StandsHash, StandsCast, StandsSlice};
 ghost use Rattle.p4_expr.specs.Bases.{SpellsOwn, SpellsInBrackets, form_of};
 
 use p4_lexer::Kind;
@@ -28,6 +28,8 @@ pub enum Form {
 pub fn form_ahead(reader: &Reader<'_>) -> Form
     ensures own { (depth : ℕ) (e : PlainExpr) (rest : List Word) → MayTake (SpellsOwn depth e) (ahead reader.now) rest → EndsBase rest → result ≡ form_of e }
     ensures bracketed { (depth : ℕ) (e : PlainExpr) (rest : List Word) → MayTake (SpellsInBrackets depth e) (ahead reader.now) rest → result ≡ Form.Bracketed }
+    ensures hash { result ≡ Form.Hash → StandsHash (ahead reader.now) }
+    ensures test { result ≡ Form.Validity → Begins (IsNamed (codes "hdr")) (ahead reader.now) × StandsTest (ahead reader.now) }
 {
     if reader.is_at_any_name() {
         return name_form(reader);
@@ -49,7 +51,9 @@ pub fn form_ahead(reader: &Reader<'_>) -> Form
 
 /// The form of what begins with the name that stands next.
 fn name_form(reader: &Reader<'_>) -> Form
-    ensures { (depth : ℕ) (e : PlainExpr) (rest : List Word) → MayTake (SpellsOwn depth e) (ahead reader.now) rest → EndsBase rest → Begins (λ word. word.kind ≡ Kind.Name) (ahead reader.now) → result ≡ form_of e }
+    ensures own { (depth : ℕ) (e : PlainExpr) (rest : List Word) → MayTake (SpellsOwn depth e) (ahead reader.now) rest → EndsBase rest → Begins (λ word. word.kind ≡ Kind.Name) (ahead reader.now) → result ≡ form_of e }
+    ensures hash { result ≡ Form.Hash → StandsHash (ahead reader.now) }
+    ensures test { result ≡ Form.Validity → Begins (IsNamed (codes "hdr")) (ahead reader.now) × StandsTest (ahead reader.now) }
 {
     if is_at_hash(reader) {
         return Form::Hash;
@@ -94,4 +98,11 @@ pub fn is_at_cast(reader: &Reader<'_>) -> bool
     ensures { IsTrue result ↔ StandsCast (ahead reader.now) }
 {
     reader.is_at_sign(b"(") && reader.later(1).is_at_reserved(b"bit")
+}
+
+/// Whether a slice goes on next, `[` and a number.
+pub fn is_at_slice(reader: &Reader<'_>) -> bool
+    ensures { IsTrue result ↔ StandsSlice (ahead reader.now) }
+{
+    reader.is_at_sign(b"[") && reader.later(1).is_at_number()
 }

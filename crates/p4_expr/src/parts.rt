@@ -1,6 +1,6 @@
 //! The parts of expressions and statements that have no expression in them.
 
-ghost use Rattle.std.specs.Prelude.{◌≡◌, ℕ, ◌≤◌, false, IsTrue, List, Option, codes, drop, IfOk, OnOk};
+ghost use Rattle.std.specs.Prelude.{◌≡◌, ℕ, ◌≤◌, false, IsTrue, List, Option, codes, drop, IfErr, IfOk, OnOk};
 ghost use Rattle.elastic_ast.specs.declared.statements.Amount.{Amount};
 ghost use Rattle.elastic_ast.specs.declared.statements.Lval.{Lval};
 ghost use Rattle.elastic_ast.specs.declared.statements.Lval.TheVariants as Lval;
@@ -8,6 +8,7 @@ ghost use Rattle.elastic_ast.specs.declared.statements.RegRef.{RegRef};
 ghost use Rattle.spelling.specs.Words.{Word};
 ghost use Rattle.spelling.specs.Grammar.{Begins, IsSign, is_number};
 ghost use Rattle.spelling.specs.Reading.{ahead, Takes, MayTake, IsAnswer, IsReading};
+ghost use Rattle.spelling.specs.Bounds.{IfTooDeep, IsNeverDeep, Line, OpensNext, Stops};
 ghost use Rattle.p4_expr.specs.GoesOn.{EndsIndex};
 ghost use Rattle.p4_expr.specs.Parts.{SpellsNumber, SpellsBits, SpellsAmount, SpellsIndex, SpellsHeader, SpellsNoArguments, SpellsLval, SpellsRegister};
 
@@ -20,6 +21,7 @@ use std::alloc::Global;
 pub fn number(reader: &mut Reader<'_>) -> Result<(Option<u8>, u128), SyntaxError>
     ensures taken { IfOk result (λ number. Takes (SpellsNumber number.0 number.1) (ahead reader.old) (ahead reader.new)) }
     ensures only { (width : Option ℕ) (value : ℕ) (rest : List Word) → MayTake (SpellsNumber width value) (ahead reader.old) rest → IsAnswer (λ read. read) (width, value) rest (ahead reader.new) result }
+    ensures shallow { IfErr result IsNeverDeep }
 {
     let (width, value) = reader.any_number()?;
     Ok((width, value))
@@ -29,6 +31,7 @@ pub fn number(reader: &mut Reader<'_>) -> Result<(Option<u8>, u128), SyntaxError
 pub fn bits(reader: &mut Reader<'_>) -> Result<u8, SyntaxError>
     ensures taken { IfOk result (λ width. Takes (SpellsBits width) (ahead reader.old) (ahead reader.new)) }
     ensures only { (width : ℕ) (rest : List Word) → MayTake (SpellsBits width) (ahead reader.old) rest → IsAnswer (λ read. read) width rest (ahead reader.new) result }
+    ensures shallow { IfErr result IsNeverDeep }
 {
     reader.reserved(b"bit")?;
     reader.sign(b"<")?;
@@ -42,6 +45,7 @@ pub fn bits(reader: &mut Reader<'_>) -> Result<u8, SyntaxError>
 pub fn amount(alloc: Global, reader: &mut Reader<'_>) -> Result<Amount, SyntaxError>
     ensures taken { IfOk result (λ amount. Takes (SpellsAmount amount) (ahead reader.old) (ahead reader.new)) }
     ensures only { (amount : Amount) (rest : List Word) → MayTake (SpellsAmount amount) (ahead reader.old) rest → IsAnswer (λ read. read) amount rest (ahead reader.new) result }
+    ensures shallow { IfErr result IsNeverDeep }
 {
     if !reader.is_at_number() {
         let name = reader.name(alloc)?;
@@ -60,6 +64,7 @@ pub fn index(
 ) -> Result<Option<Name>, SyntaxError>
     ensures taken { IfOk result (λ index. MayTake (SpellsIndex depth index) (ahead reader.old) (ahead reader.new)) }
     ensures only { (more : ℕ) (index : Option (List ℕ)) (rest : List Word) → MayTake (SpellsIndex more index) (ahead reader.old) rest → EndsIndex rest → IsReading (more ≤ depth) (λ read. read) index rest (ahead reader.new) result }
+    ensures deep { IfErr result (IfTooDeep (Stops (Line depth) OpensNext (ahead reader.old) (ahead reader.new))) }
 {
     if !is_at_index(reader) {
         return Ok(None);
@@ -74,6 +79,7 @@ pub fn index(
 pub fn header(alloc: Global, reader: &mut Reader<'_>) -> Result<Name, SyntaxError>
     ensures taken { IfOk result (λ name. Takes (SpellsHeader name) (ahead reader.old) (ahead reader.new)) }
     ensures only { (name : List ℕ) (rest : List Word) → MayTake (SpellsHeader name) (ahead reader.old) rest → IsAnswer (λ read. read) name rest (ahead reader.new) result }
+    ensures shallow { IfErr result IsNeverDeep }
 {
     reader.fixed_name(b"hdr")?;
     reader.sign(b".")?;
@@ -85,6 +91,7 @@ pub fn header(alloc: Global, reader: &mut Reader<'_>) -> Result<Name, SyntaxErro
 pub fn no_arguments(reader: &mut Reader<'_>, depth: u32) -> Result<(), SyntaxError>
     ensures taken { OnOk result (Takes (SpellsNoArguments depth) (ahead reader.old) (ahead reader.new)) }
     ensures only { (more : ℕ) (rest : List Word) → MayTake (SpellsNoArguments more) (ahead reader.old) rest → IsReading (more ≤ depth) (λ read. read) tt rest (ahead reader.new) result }
+    ensures deep { IfErr result (IfTooDeep (Stops (Line depth) OpensNext (ahead reader.old) (ahead reader.new))) }
 {
     let _inner = reader.open(b"(", depth)?;
     reader.sign(b")")?;
@@ -96,6 +103,7 @@ pub fn no_arguments(reader: &mut Reader<'_>, depth: u32) -> Result<(), SyntaxErr
 pub fn lval(alloc: Global, reader: &mut Reader<'_>, depth: u32) -> Result<Lval, SyntaxError>
     ensures taken { IfOk result (λ lval. Takes (SpellsLval depth lval) (ahead reader.old) (ahead reader.new)) }
     ensures only { (more : ℕ) (lval : Lval) (rest : List Word) → MayTake (SpellsLval more lval) (ahead reader.old) rest → EndsIndex rest → IsReading (more ≤ depth) (λ read. read) lval rest (ahead reader.new) result }
+    ensures deep { IfErr result (IfTooDeep (Stops (Line depth) OpensNext (ahead reader.old) (ahead reader.new))) }
 {
     if reader.is_at_name(b"meta") {
         return meta_place(alloc, reader, depth);
@@ -111,6 +119,7 @@ pub fn lval(alloc: Global, reader: &mut Reader<'_>, depth: u32) -> Result<Lval, 
 pub fn register(alloc: Global, reader: &mut Reader<'_>, depth: u32) -> Result<RegRef, SyntaxError>
     ensures taken { IfOk result (λ register. Takes (SpellsRegister depth register) (ahead reader.old) (ahead reader.new)) }
     ensures only { (more : ℕ) (register : RegRef) (rest : List Word) → MayTake (SpellsRegister more register) (ahead reader.old) rest → EndsIndex rest → IsReading (more ≤ depth) (λ read. read) register rest (ahead reader.new) result }
+    ensures deep { IfErr result (IfTooDeep (Stops (Line depth) OpensNext (ahead reader.old) (ahead reader.new))) }
 {
     let name = reader.name(alloc)?;
     let index = index(alloc, reader, depth)?;
@@ -130,6 +139,7 @@ fn is_at_index(reader: &Reader<'_>) -> bool
 fn meta_place(alloc: Global, reader: &mut Reader<'_>, depth: u32) -> Result<Lval, SyntaxError>
     ensures taken { IfOk result (λ lval. Takes (SpellsLval depth lval) (ahead reader.old) (ahead reader.new)) }
     ensures only { (more : ℕ) (name : List ℕ) (index : Option (List ℕ)) (rest : List Word) → MayTake (SpellsLval more (Lval.Meta name index)) (ahead reader.old) rest → EndsIndex rest → IsReading (more ≤ depth) (λ read. read) (Lval.Meta name index) rest (ahead reader.new) result }
+    ensures deep { IfErr result (IfTooDeep (Stops (Line depth) OpensNext (ahead reader.old) (ahead reader.new))) }
 {
     reader.fixed_name(b"meta")?;
     reader.sign(b".")?;
@@ -142,6 +152,7 @@ fn meta_place(alloc: Global, reader: &mut Reader<'_>, depth: u32) -> Result<Lval
 fn std_place(alloc: Global, reader: &mut Reader<'_>) -> Result<Lval, SyntaxError>
     ensures taken { IfOk result (λ lval. (depth : ℕ) → Takes (SpellsLval depth lval) (ahead reader.old) (ahead reader.new)) }
     ensures only { (more : ℕ) (name : List ℕ) (rest : List Word) → MayTake (SpellsLval more (Lval.Std name)) (ahead reader.old) rest → IsAnswer (λ read. read) (Lval.Std name) rest (ahead reader.new) result }
+    ensures shallow { IfErr result IsNeverDeep }
 {
     reader.fixed_name(b"std")?;
     reader.sign(b".")?;
@@ -153,6 +164,7 @@ fn std_place(alloc: Global, reader: &mut Reader<'_>) -> Result<Lval, SyntaxError
 fn header_place(alloc: Global, reader: &mut Reader<'_>) -> Result<Lval, SyntaxError>
     ensures taken { IfOk result (λ lval. (depth : ℕ) → Takes (SpellsLval depth lval) (ahead reader.old) (ahead reader.new)) }
     ensures only { (more : ℕ) (header field : List ℕ) (rest : List Word) → MayTake (SpellsLval more (Lval.Header header field)) (ahead reader.old) rest → IsAnswer (λ read. read) (Lval.Header header field) rest (ahead reader.new) result }
+    ensures shallow { IfErr result IsNeverDeep }
 {
     let header = header(alloc, reader)?;
     reader.sign(b".")?;

@@ -7,6 +7,7 @@ ghost use Rattle.elastic_ast.specs.declared.statements.Amount.{Amount};
 ghost use Rattle.spelling.specs.Words.{Word};
 ghost use Rattle.spelling.specs.Grammar.{◌⨟◌, Sign};
 ghost use Rattle.spelling.specs.Reading.{ahead, Takes, MayTake, IsAnswer, IsReading, IsWant};
+ghost use Rattle.spelling.specs.Bounds.{IfTooDeep, IsNeverDeep, Line, OpensNext, Stops};
 ghost use Rattle.p4_expr.specs.Parts.{SpellsAmount, SpellsTruth, SpellsIsValid, SpellsBitRange, SpellsCast};
 
 use crate::parts::{amount, bits, header, no_arguments};
@@ -19,6 +20,7 @@ use std::alloc::Global;
 pub fn truth(reader: &mut Reader<'_>) -> Result<bool, SyntaxError>
     ensures taken { IfOk result (λ which. Takes (SpellsTruth which) (ahead reader.old) (ahead reader.new)) }
     ensures only { (which : Bool) (rest : List Word) → MayTake (SpellsTruth which) (ahead reader.old) rest → IsAnswer (λ read. read) which rest (ahead reader.new) result }
+    ensures shallow { IfErr result IsNeverDeep }
 {
     if reader.is_at_reserved(b"true") {
         reader.reserved(b"true")?;
@@ -32,6 +34,7 @@ pub fn truth(reader: &mut Reader<'_>) -> Result<bool, SyntaxError>
 pub fn cast(reader: &mut Reader<'_>, depth: u32) -> Result<u8, SyntaxError>
     ensures taken { IfOk result (λ width. Takes (SpellsCast depth width) (ahead reader.old) (ahead reader.new)) }
     ensures only { (more width : ℕ) (rest : List Word) → MayTake (SpellsCast more width) (ahead reader.old) rest → IsReading (more ≤ depth) (λ read. read) width rest (ahead reader.new) result }
+    ensures deep { IfErr result (IfTooDeep (Stops (Line depth) OpensNext (ahead reader.old) (ahead reader.new))) }
 {
     let _inner = reader.open(b"(", depth)?;
     let width = bits(reader)?;
@@ -43,6 +46,7 @@ pub fn cast(reader: &mut Reader<'_>, depth: u32) -> Result<u8, SyntaxError>
 pub fn bit_range(reader: &mut Reader<'_>, depth: u32) -> Result<(u8, u8), SyntaxError>
     ensures taken { IfOk result (λ range. Takes (SpellsBitRange depth range.0 range.1) (ahead reader.old) (ahead reader.new)) }
     ensures only { (more high low : ℕ) (rest : List Word) → MayTake (SpellsBitRange more high low) (ahead reader.old) rest → IsReading (more ≤ depth) (λ read. read) (high, low) rest (ahead reader.new) result }
+    ensures deep { IfErr result (IfTooDeep (Stops (Line depth) OpensNext (ahead reader.old) (ahead reader.new))) }
 {
     let _inner = reader.open(b"[", depth)?;
     let high = reader.number(255)?;
@@ -56,6 +60,7 @@ pub fn bit_range(reader: &mut Reader<'_>, depth: u32) -> Result<(u8, u8), Syntax
 pub fn validity(alloc: Global, reader: &mut Reader<'_>, depth: u32) -> Result<Name, SyntaxError>
     ensures taken { IfOk result (λ name. Takes (SpellsIsValid depth name) (ahead reader.old) (ahead reader.new)) }
     ensures only { (more : ℕ) (name : List ℕ) (rest : List Word) → MayTake (SpellsIsValid more name) (ahead reader.old) rest → IsReading (more ≤ depth) (λ read. read) name rest (ahead reader.new) result }
+    ensures deep { IfErr result (IfTooDeep (Stops (Line depth) OpensNext (ahead reader.old) (ahead reader.new))) }
 {
     let name = header(alloc, reader)?;
     reader.sign(b".")?;
@@ -68,6 +73,7 @@ pub fn validity(alloc: Global, reader: &mut Reader<'_>, depth: u32) -> Result<Na
 pub fn hash_number(alloc: Global, reader: &mut Reader<'_>) -> Result<Amount, SyntaxError>
     ensures taken { IfOk result (λ number. Takes (SpellsAmount number ⨟ Sign (codes ",")) (ahead reader.old) (ahead reader.new)) }
     ensures only { (number : Amount) (rest : List Word) → MayTake (SpellsAmount number ⨟ Sign (codes ",")) (ahead reader.old) rest → IsAnswer (λ read. read) number rest (ahead reader.new) result }
+    ensures shallow { IfErr result IsNeverDeep }
 {
     let number = amount(alloc, reader)?;
     reader.sign(b",")?;
@@ -78,6 +84,7 @@ pub fn hash_number(alloc: Global, reader: &mut Reader<'_>) -> Result<Amount, Syn
 pub fn hash_modulus(alloc: Global, reader: &mut Reader<'_>) -> Result<Amount, SyntaxError>
     ensures taken { IfOk result (λ modulus. Takes (Sign (codes ",") ⨟ SpellsAmount modulus) (ahead reader.old) (ahead reader.new)) }
     ensures only { (modulus : Amount) (rest : List Word) → MayTake (Sign (codes ",") ⨟ SpellsAmount modulus) (ahead reader.old) rest → IsAnswer (λ read. read) modulus rest (ahead reader.new) result }
+    ensures shallow { IfErr result IsNeverDeep }
 {
     reader.sign(b",")?;
     amount(alloc, reader)

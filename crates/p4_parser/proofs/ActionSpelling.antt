@@ -10,12 +10,6 @@ use Rattle.spelling.proofs.Peeling.{past_none}
 use Rattle.spelling.proofs.Taking.{may, takes_as}
 use Rattle.p4_parser.specs.Declarations.{SpellsActionIndex, SpellsParam}
 
-pub same_param : (f g : Param) → f.name ≡ g.name → f.width ≡ g.width → f ≡ g
-same_param f g name width =
-    let made : List ℕ → ℕ → Param = λ n w. record { name = n; width = w } in
-    let same : made f.name f.width ≡ made g.name g.width = ap (λ n. made n f.width) name ∙ ap (λ w. made g.name w) width in
-    same
-
 pub same_action : (f g : PlainAction) → f.name ≡ g.name → f.index ≡ g.index → f.params ≡ g.params → f.body ≡ g.body → f ≡ g
 same_action f g name index params body =
     let made : List ℕ → Option (List ℕ) → List Param → PlainStmts → PlainAction = λ n i p s. record { name = n; index = i; params = p; body = s } in

@@ -6,10 +6,10 @@ use Rattle.elastic_ast.specs.Tree.{Name, PlainDecl, PlainLocal, PlainState, Plai
 use Rattle.spelling.specs.Words.{Word}
 use Rattle.spelling.specs.Grammar.{Grammar, ◌⨟◌, One, Begins, Bracketed, IsNamed, IsReserved, Named, Reserved, is_reserved}
 use Rattle.spelling.specs.Reading.{MayTake}
-use Rattle.spelling.proofs.Only.{begins, begins_both, begins_first, of_where, other_text, regroup, split}
+use Rattle.spelling.proofs.Only.{begins, begins_both, begins_first, behind_first, of_where, other_text, regroup, split}
 use Rattle.p4_declarations.specs.Flat.{SpellsFlat}
 use Rattle.p4_expr.specs.Expressions.{HasFewOperators}
-use Rattle.p4_statements.proofs.Ahead.{at_third, behind_first}
+use Rattle.p4_statements.proofs.Ahead.{at_third}
 use Rattle.p4_statements.proofs.Lists.{all_back, all_front}
 use Rattle.p4_parser.specs.Declarations.{SpellsDeclaration}
 use Rattle.p4_parser.specs.ExpressionsIn.{expressions_of_decl, expressions_in}

@@ -1,12 +1,11 @@
 pub mod StatementTrees
 pub mod TwoKeys
-pub mod StatementsWithin
 pub mod StatementsDeeper
-pub mod TablesWithin
 pub mod DeclarationsWithin
 pub mod DeclarationsDeeper
 pub mod NestedConditions
 pub mod Refused
+pub mod Reaching
 pub mod DeclarationTrees
 pub mod Cutting
 pub mod WorkedTrees

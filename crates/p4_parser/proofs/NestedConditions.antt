@@ -8,7 +8,7 @@ use Rattle.p4_expr.proofs.Building.{sign_first, sign_last, name_first, name_last
 use Rattle.p4_statements.specs.Statements.{SpellsPlain, SpellsStmt, SpellsStmts, SpellsBranch, is_bare_block}
 use Rattle.p4_parser.specs.Examples.{only, conditions, drop_words, condition_words, opening_word, closing_word, bracketed_conditions, bare_conditions}
 use Rattle.p4_parser.proofs.StatementTrees.{condition_of_name}
-use Rattle.p4_parser.proofs.StatementsWithin.{stmts_within}
+use Rattle.p4_statements.proofs.StatementsWithin.{stmts_within}
 
 drop_spelled : (depth : ℕ) → SpellsStmt depth false (conditions zero) drop_words
 drop_spelled depth = SpellsStmt.simple

@@ -4,3 +4,4 @@ pub mod ProgramOf
 pub mod Examples
 pub mod WorkedTexts
 pub mod Reading
+pub mod Reaching

@@ -1,6 +1,6 @@
 //! Actions.
 
-ghost use Rattle.std.specs.Prelude.{ℕ, ◌≤◌, List, Option, codes, IfOk};
+ghost use Rattle.std.specs.Prelude.{ℕ, ◌≤◌, List, Option, codes, IfOk, IfErr};
 ghost use Rattle.elastic_ast.specs.Seen.{seen_action, seen_stmts};
 ghost use Rattle.elastic_ast.specs.Tree.{PlainAction, PlainLocal, PlainStmts};
 ghost use Rattle.elastic_ast.specs.declared.declarations.Param.{Param};
@@ -10,6 +10,8 @@ ghost use Rattle.spelling.specs.Reading.{ahead, Takes, MayTake, IsAnswer, IsRead
 ghost use Rattle.p4_statements.specs.Statements.{SpellsPlains};
 ghost use Rattle.p4_statements.specs.Reading.{HaveFew};
 ghost use Rattle.p4_parser.specs.Declarations.{SpellsActionIndex, SpellsLocal, SpellsParam};
+ghost use Rattle.spelling.specs.Bounds.{IfTooDeep, IsNeverDeep, Opens, OpensNext, Stops};
+ghost use Rattle.p4_expr.specs.Passing.{BoundPassed};
 
 use elastic_ast::{Action, Param, Stmt};
 use elx_bits::{Items, Name};
@@ -24,6 +26,7 @@ pub fn action(alloc: Global, reader: &mut Reader<'_>, depth: u32) -> Result<Acti
     ensures taken { IfOk result (λ action. Takes (SpellsLocal depth (PlainLocal.OfAction (seen_action action))) (ahead reader.old) (ahead reader.new)) }
     ensures few { IfOk result (λ action. HaveFew (seen_action action).body) }
     ensures only { (more : ℕ) (action : PlainAction) (rest : List Word) → MayTake (SpellsLocal more (PlainLocal.OfAction action)) (ahead reader.old) rest → IsReading ((more ≤ depth) × HaveFew action.body) seen_action action rest (ahead reader.new) result }
+    ensures deep { IfErr result (IfTooDeep (BoundPassed (Opens depth) 1 (ahead reader.old) (ahead reader.new))) }
 {
     reader.reserved(b"action")?;
     let name = reader.name(alloc)?;
@@ -46,6 +49,7 @@ fn action_index(
 ) -> Result<Option<Name>, SyntaxError>
     ensures taken { IfOk result (λ index. MayTake (SpellsActionIndex depth index) (ahead reader.old) (ahead reader.new)) }
     ensures only { (more : ℕ) (index : Option (List ℕ)) (rest : List Word) → MayTake (SpellsActionIndex more index) (ahead reader.old) rest → Begins (IsSign (codes "(")) rest → IsReading (more ≤ depth) (λ read. read) index rest (ahead reader.new) result }
+    ensures deep { IfErr result (IfTooDeep (Stops (Opens depth) OpensNext (ahead reader.old) (ahead reader.new))) }
 {
     if !reader.is_at_sign(b"[") {
         return Ok(None);
@@ -61,6 +65,7 @@ fn action_index(
 fn params(alloc: Global, reader: &mut Reader<'_>, depth: u32) -> Result<Items<Param>, SyntaxError>
     ensures taken { IfOk result (λ params. Takes (Bracketed (codes "(") (codes ")") depth (λ _. Commas SpellsParam params)) (ahead reader.old) (ahead reader.new)) }
     ensures only { (more : ℕ) (params : List Param) (rest : List Word) → MayTake (Bracketed (codes "(") (codes ")") more (λ _. Commas SpellsParam params)) (ahead reader.old) rest → IsReading (more ≤ depth) (λ read. read) params rest (ahead reader.new) result }
+    ensures deep { IfErr result (IfTooDeep (Stops (Opens depth) OpensNext (ahead reader.old) (ahead reader.new))) }
 {
     let _inner = reader.open(b"(", depth)?;
     if reader.eat_sign(b")") {
@@ -75,6 +80,7 @@ fn params(alloc: Global, reader: &mut Reader<'_>, depth: u32) -> Result<Items<Pa
 fn some_params(alloc: Global, reader: &mut Reader<'_>) -> Result<Items<Param>, SyntaxError>
     ensures taken { IfOk result (λ params. Takes (Separated (Sign (codes ",")) SpellsParam params) (ahead reader.old) (ahead reader.new)) }
     ensures only { (params : List Param) (rest : List Word) → MayTake (Separated (Sign (codes ",")) SpellsParam params) (ahead reader.old) rest → Begins (IsSign (codes ")")) rest → IsAnswer (λ read. read) params rest (ahead reader.new) result }
+    ensures shallow { IfErr result IsNeverDeep }
 {
     let mut params = Items::new(alloc);
     let first = param(alloc, reader)?;
@@ -90,6 +96,7 @@ fn some_params(alloc: Global, reader: &mut Reader<'_>) -> Result<Items<Param>, S
 fn param(alloc: Global, reader: &mut Reader<'_>) -> Result<Param, SyntaxError>
     ensures taken { IfOk result (λ param. Takes (SpellsParam param) (ahead reader.old) (ahead reader.new)) }
     ensures only { (param : Param) (rest : List Word) → MayTake (SpellsParam param) (ahead reader.old) rest → IsAnswer (λ read. read) param rest (ahead reader.new) result }
+    ensures shallow { IfErr result IsNeverDeep }
 {
     let width = bits(reader)?;
     let name = reader.name(alloc)?;
@@ -101,6 +108,7 @@ fn body(alloc: Global, reader: &mut Reader<'_>, depth: u32) -> Result<Items<Stmt
     ensures taken { IfOk result (λ stmts. Takes (Bracketed (codes "{") (codes "}") depth (λ inner. SpellsPlains inner (seen_stmts stmts))) (ahead reader.old) (ahead reader.new)) }
     ensures few { IfOk result (λ stmts. HaveFew (seen_stmts stmts)) }
     ensures only { (more : ℕ) (stmts : PlainStmts) (rest : List Word) → MayTake (Bracketed (codes "{") (codes "}") more (λ inner. SpellsPlains inner stmts)) (ahead reader.old) rest → IsReading ((more ≤ depth) × HaveFew stmts) seen_stmts stmts rest (ahead reader.new) result }
+    ensures deep { IfErr result (IfTooDeep (BoundPassed (Opens depth) 1 (ahead reader.old) (ahead reader.new))) }
 {
     let inner = reader.open(b"{", depth)?;
     let stmts = plain_statements(alloc, reader, inner)?;

@@ -1,5 +1,5 @@
 -- Words at fixed places of a statement, by which its form is told.
-use Rattle.std.proofs.Common.{◌≡◌, ℕ, zero, suc, Bool, true, false, List, [], ◌∷◌, drop, Option, Some, None, codes, bytes_eq, refl, sym, ap, subst, ◌⊎◌, inl, inr, IsTrue, Result, Ok, Err}
+use Rattle.std.proofs.Common.{◌≡◌, ℕ, zero, suc, Bool, true, false, List, [], ◌∷◌, drop, Option, Some, None, codes, refl, ap, ◌⊎◌, inl, inr, IsTrue, Result, Ok, Err}
 use Rattle.std.proofs.lemmas.Bool.{false≢true}
 use Rattle.std.specs.Result.{IfOk}
 use Rattle.p4_lexer.specs.declared.token.Kind.TheVariants as kind
@@ -8,18 +8,14 @@ use Rattle.elastic_ast.specs.declared.statements.Lval.TheVariants as lval
 use Rattle.elastic_ast.specs.declared.statements.RegRef.{RegRef}
 use Rattle.elastic_ast.specs.Tree.{Name, PlainExpr, PlainStmt}
 use Rattle.spelling.specs.Words.{Word}
-use Rattle.spelling.specs.Grammar.{Grammar, ◌⨟◌, One, Named, Sign, Begins, IsNamed, IsSign, Bracketed, is_sign}
+use Rattle.spelling.specs.Grammar.{Grammar, ◌⨟◌, Named, Sign, Begins, IsNamed, IsSign, Bracketed, is_sign}
 use Rattle.spelling.specs.Reading.{MayTake}
-use Rattle.spelling.proofs.Only.{begins_as, begins_bracketed, begins_first, not_sign, opened, other_text, regroup, split}
+use Rattle.spelling.proofs.Only.{begins_as, begins_bracketed, begins_first, behind_first, no_sign, not_sign, other_text, regroup, split}
 use Rattle.spelling.proofs.Peeling.{past_none}
 use Rattle.p4_expr.specs.Parts.{SpellsIndex, SpellsLval}
 use Rattle.p4_expr.specs.Expressions.{SpellsExpr}
 use Rattle.p4_statements.specs.Statements.{SpellsApply, SpellsCall, SpellsPlain, SpellsValidity}
 use Rattle.p4_statements.specs.Reading.{IsReadAhead, SpellsReadOf, SpellsSimple}
-
--- the words behind the first
-pub behind_first : {F : Word → Type 0} {Q : Grammar} {a c : List Word} → MayTake (One F ⨟ Q) a c → MayTake Q (drop 1 a) c
-behind_first {Q = Q} {c = c} m = let s = split m in subst (λ ws. MayTake Q (drop 1 ws) c) (sym (opened s.first)) s.second
 
 -- so many words on, counted behind the first
 pub later_word : (P : List Word → Type 0) (n : ℕ) (a : List Word) → P (drop n (drop 1 a)) → P (drop (suc n) a)
@@ -31,9 +27,6 @@ pub earlier_word : (P : List Word → Type 0) (n : ℕ) (a : List Word) → P (d
 earlier_word P zero [] h = h
 earlier_word P (suc n) [] h = h
 earlier_word P n (w ∷ a) h = h
-
-pub not_both : (s t : List ℕ) (ws : List Word) → bytes_eq s t ≡ false → Begins (IsSign s) ws → Begins (IsSign t) ws → ⊥
-not_both s t ws differ f g = other_text s t ws differ (λ word h. h.1) (λ word h. h.1) f g
 
 pub at_second : (P : List Word → Type 0) (a : List Word) → P (drop 1 (drop 1 a)) → P (drop 2 a)
 at_second P a h = later_word P 1 a h
@@ -81,20 +74,20 @@ place_ahead more (lval.Std name) {a = a} m =
     record { dot = begins_first (regroup m1); third = inr (inl (at_third (Begins (IsSign (codes "="))) a (begins_first m3))) }
 
 pub place_no_index : {a : List Word} → PlaceAhead a → Begins (IsSign (codes "[")) (drop 1 a) → ⊥
-place_no_index {a = a} p at = not_both (codes ".") (codes "[") (drop 1 a) refl p.dot at
+place_no_index {a = a} p at = no_sign (codes ".") (codes "[") (drop 1 a) refl p.dot at
 
 pub place_no_call : {a : List Word} → PlaceAhead a → Begins (IsSign (codes "(")) (drop 3 a) → ⊥
 place_no_call {a = a} p at =
     elim p.third [
-      | inl h ↦ not_both (codes ".") (codes "(") (drop 3 a) refl h.0 at
-      | inr h ↦ elim h [ inl e ↦ not_both (codes "=") (codes "(") (drop 3 a) refl e at | inr b ↦ not_both (codes "[") (codes "(") (drop 3 a) refl b at ]
+      | inl h ↦ no_sign (codes ".") (codes "(") (drop 3 a) refl h.0 at
+      | inr h ↦ elim h [ inl e ↦ no_sign (codes "=") (codes "(") (drop 3 a) refl e at | inr b ↦ no_sign (codes "[") (codes "(") (drop 3 a) refl b at ]
     ]
 
 pub place_no_validity : {a : List Word} → PlaceAhead a → Begins (IsSign (codes ".")) (drop 3 a) → Begins (IsSign (codes "(")) (drop 5 a) → ⊥
 place_no_validity {a = a} p dot at =
     elim p.third [
-      | inl h ↦ not_both (codes "=") (codes "(") (drop 5 a) refl h.1 at
-      | inr h ↦ elim h [ inl e ↦ not_both (codes "=") (codes ".") (drop 3 a) refl e dot | inr b ↦ not_both (codes "[") (codes ".") (drop 3 a) refl b dot ]
+      | inl h ↦ no_sign (codes "=") (codes "(") (drop 5 a) refl h.1 at
+      | inr h ↦ elim h [ inl e ↦ no_sign (codes "=") (codes ".") (drop 3 a) refl e dot | inr b ↦ no_sign (codes "[") (codes ".") (drop 3 a) refl b dot ]
     ]
 
 -- the words up to the bracket behind a change of validity
@@ -121,10 +114,10 @@ validity_ahead more header on {a = a} m =
     }
 
 pub validity_no_index : {a : List Word} → ValidityAhead a → Begins (IsSign (codes "[")) (drop 1 a) → ⊥
-validity_no_index {a = a} p at = not_both (codes ".") (codes "[") (drop 1 a) refl p.dot at
+validity_no_index {a = a} p at = no_sign (codes ".") (codes "[") (drop 1 a) refl p.dot at
 
 pub validity_no_call : {a : List Word} → ValidityAhead a → Begins (IsSign (codes "(")) (drop 3 a) → ⊥
-validity_no_call {a = a} p at = not_both (codes ".") (codes "(") (drop 3 a) refl p.third at
+validity_no_call {a = a} p at = no_sign (codes ".") (codes "(") (drop 3 a) refl p.third at
 
 -- a plain statement by its form
 pub by_plain : (more : ℕ) (Answer : PlainStmt → Type 0) (stmt : PlainStmt) {a c : List Word} → MayTake (SpellsPlain more stmt) a c → ((to : Lval) (value : PlainExpr) → MayTake (SpellsLval more to ⨟ Sign (codes "=") ⨟ SpellsExpr more value ⨟ Sign (codes ";")) a c → Answer (PlainStmt.Assign to value)) → ((to : Lval) (register : RegRef) (cell : PlainExpr) → MayTake (SpellsLval more to ⨟ Sign (codes "=") ⨟ SpellsReadOf more register cell) a c → Answer (PlainStmt.Read to register cell)) → ((register : RegRef) (cell value : PlainExpr) → MayTake (SpellsPlain more (PlainStmt.Write register cell value)) a c → Answer (PlainStmt.Write register cell value)) → ((header : Name) (on : Bool) → MayTake (SpellsPlain more (PlainStmt.Valid header on)) a c → Answer (PlainStmt.Valid header on)) → Answer stmt
@@ -241,7 +234,7 @@ pub record NoCall (a : List Word) : Type 0 where
 place_none : {a : List Word} → PlaceAhead a → NoCall a
 place_none {a = a} p =
     record {
-      plain = not_both (codes ".") (codes "(") (drop 1 a) refl p.dot;
+      plain = no_sign (codes ".") (codes "(") (drop 1 a) refl p.dot;
       index = λ at _. place_no_index p at;
       apply = λ _ at. place_no_call p at;
     }
@@ -249,21 +242,21 @@ place_none {a = a} p =
 write_none : (a : List Word) → (Begins (IsSign (codes ".")) (drop 1 a) × Begins (IsNamed (codes "write")) (drop 2 a)) ⊎ (Begins (IsSign (codes "[")) (drop 1 a) × Begins (IsSign (codes "]")) (drop 3 a) × Begins (IsSign (codes ".")) (drop 4 a)) → NoCall a
 write_none a (inl h) =
     record {
-      plain = not_both (codes ".") (codes "(") (drop 1 a) refl h.0;
-      index = λ at _. not_both (codes ".") (codes "[") (drop 1 a) refl h.0 at;
+      plain = no_sign (codes ".") (codes "(") (drop 1 a) refl h.0;
+      index = λ at _. no_sign (codes ".") (codes "[") (drop 1 a) refl h.0 at;
       apply = λ at _. other_text (codes "write") (codes "apply") (drop 2 a) refl (λ word h. h.1) (λ word h. h.1) h.1 at;
     }
 write_none a (inr h) =
     record {
-      plain = not_both (codes "[") (codes "(") (drop 1 a) refl h.0;
-      index = λ _ at. not_both (codes ".") (codes "(") (drop 4 a) refl h.2 at;
-      apply = λ _ at. not_both (codes "]") (codes "(") (drop 3 a) refl h.1 at;
+      plain = no_sign (codes "[") (codes "(") (drop 1 a) refl h.0;
+      index = λ _ at. no_sign (codes ".") (codes "(") (drop 4 a) refl h.2 at;
+      apply = λ _ at. no_sign (codes "]") (codes "(") (drop 3 a) refl h.1 at;
     }
 
 validity_none : {a : List Word} → ValidityAhead a → NoCall a
 validity_none {a = a} v =
     record {
-      plain = not_both (codes ".") (codes "(") (drop 1 a) refl v.dot;
+      plain = no_sign (codes ".") (codes "(") (drop 1 a) refl v.dot;
       index = λ at _. validity_no_index v at;
       apply = λ _ at. validity_no_call v at;
     }

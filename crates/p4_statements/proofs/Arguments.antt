@@ -6,17 +6,16 @@ use Rattle.spelling.specs.Words.{Word}
 use Rattle.spelling.specs.Grammar.{Grammar, ◌⨟◌, Commas, Each, Separated, Sign, Begins, IsSign}
 use Rattle.spelling.specs.Reading.{ahead, Ends, MayTake, Takes}
 use Rattle.spelling.specs.declared.reader.Reader.{Reader}
-use Rattle.spelling.proofs.Only.{begins, begins_first, empty_same, ends_sign, regroup, same_end}
+use Rattle.spelling.proofs.Only.{begins, begins_first, empty_same, ends_sign, no_sign, regroup, same_end}
 use Rattle.spelling.proofs.Peeling.{past_none}
 use Rattle.spelling.proofs.Taking.{may, takes_as}
 use Rattle.p4_expr.specs.Expressions.{HasFewOperators, SpellsExpr}
 use Rattle.p4_expr.specs.GoesOn.{expression_signs}
-use Rattle.p4_statements.proofs.Ahead.{not_both}
 use Rattle.p4_statements.proofs.ExprFirst.{expr_first, no_closing}
 use Rattle.p4_statements.proofs.Lists.{all_back}
 
 pub no_comma : (ws : List Word) → Begins (IsSign (codes ")")) ws → Begins (IsSign (codes ",")) ws → ⊥
-no_comma ws closing comma = not_both (codes ")") (codes ",") ws refl closing comma
+no_comma ws closing comma = no_sign (codes ")") (codes ",") ws refl closing comma
 
 pub args_follow : (more : ℕ) (later : List PlainExpr) {a rest : List Word} → MayTake (Each (λ e. Sign (codes ",") ⨟ SpellsExpr more e) later) a rest → Begins (IsSign (codes ")")) rest → Ends expression_signs a
 args_follow more [] {a = a} m ends = ends_sign expression_signs (codes ")") a refl (subst (Begins (IsSign (codes ")"))) (sym (empty_same m)) ends)

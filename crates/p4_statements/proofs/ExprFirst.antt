@@ -7,11 +7,10 @@ use Rattle.elastic_ast.specs.Tree.{PlainExpr}
 use Rattle.spelling.specs.Words.{Word}
 use Rattle.spelling.specs.Grammar.{Grammar, ◌⨟◌, Named, Sign, Begins, IsSign, is_sign}
 use Rattle.spelling.specs.Reading.{MayTake}
-use Rattle.spelling.proofs.Only.{begins, begins_first, not_sign, of_where, regroup, reserved_no_sign, split}
+use Rattle.spelling.proofs.Only.{begins, begins_first, no_sign, not_sign, of_where, regroup, reserved_no_sign, split}
 use Rattle.p4_expr.specs.Parts.{SpellsIsValid, SpellsLval, SpellsNumber, SpellsTruth}
 use Rattle.p4_expr.specs.Operators.{SpellsOperator, level_of, weakest}
 use Rattle.p4_expr.specs.Expressions.{SpellsLevel, SpellsPrefixed, SpellsPrimary, SpellsExpr, prefixed, stronger, binary, primary, unary, cast, number, name, truth, place, is_valid, bracketed, hash, slice}
-use Rattle.p4_statements.proofs.Ahead.{not_both}
 use Rattle.p4_statements.proofs.NoRead.{cast_begins, joined_as, put}
 
 -- a sign with which none does
@@ -38,8 +37,8 @@ prefix_first Plus ws rest n e h at = absurd cc
 prefix_first Minus ws rest n e h at = absurd cc
 prefix_first Join ws rest n e h at = absurd cc
 prefix_first Times ws rest n e h at = absurd cc
-prefix_first Turn {sign = sign} ws rest n e h at = not_both (codes "~") sign (ws ++ rest) n.no_turn (begins (put (Sign (codes "~")) ws rest h)) at
-prefix_first Negate {sign = sign} ws rest n e h at = not_both (codes "!") sign (ws ++ rest) n.no_negation (begins (put (Sign (codes "!")) ws rest h)) at
+prefix_first Turn {sign = sign} ws rest n e h at = no_sign (codes "~") sign (ws ++ rest) n.no_turn (begins (put (Sign (codes "~")) ws rest h)) at
+prefix_first Negate {sign = sign} ws rest n e h at = no_sign (codes "!") sign (ws ++ rest) n.no_negation (begins (put (Sign (codes "!")) ws rest h)) at
 prefix_first NoOperator ws rest n e h at = absurd h
 
 truth_first : (which : Bool) (sign : List ℕ) (ws rest : List Word) → SpellsTruth which ws → Begins (IsSign sign) (ws ++ rest) → ⊥
@@ -64,7 +63,7 @@ mutual
   prefixed_first depth e sign ws rest n (unary operator front back is s h j) at =
       prefix_first operator front (back ++ rest) n is.level_is s (subst (Begins (IsSign sign)) (joined_as front back rest j) at)
   prefixed_first depth e sign ws rest n (cast {width = width} front back s h j) at =
-      not_both (codes "(") sign (front ++ (back ++ rest)) n.no_bracket (cast_begins depth width front (back ++ rest) s) (subst (Begins (IsSign sign)) (joined_as front back rest j) at)
+      no_sign (codes "(") sign (front ++ (back ++ rest)) n.no_bracket (cast_begins depth width front (back ++ rest) s) (subst (Begins (IsSign sign)) (joined_as front back rest j) at)
 
   primary_first : (depth : ℕ) (e : PlainExpr) (sign : List ℕ) (ws rest : List Word) → NoFirst sign → SpellsPrimary depth e ws → Begins (IsSign sign) (ws ++ rest) → ⊥
   primary_first depth e sign ws rest n (number {width = width} {value = value} h) at = not_sign sign (ws ++ rest) (λ word p. ap is_sign p) (begins (of_where (put (SpellsNumber width value) ws rest h))) at
@@ -74,7 +73,7 @@ mutual
   primary_first depth e sign ws rest n (is_valid {header = header} h) at = not_sign sign (ws ++ rest) (λ word p. ap is_sign p.0) (begins_first (regroup (put (SpellsIsValid depth header) ws rest h))) at
   primary_first (suc depth) e sign ws rest n (bracketed opening inside closing o h c j) at =
       let same : ws ++ rest ≡ opening ++ (inside ++ (closing ++ rest)) = joined_as (opening ++ inside) closing rest j ∙ append_assoc opening inside (closing ++ rest) in
-      not_both (codes "(") sign (opening ++ (inside ++ (closing ++ rest))) n.no_bracket (begins (put (Sign (codes "(")) opening (inside ++ (closing ++ rest)) o)) (subst (Begins (IsSign sign)) same at)
+      no_sign (codes "(") sign (opening ++ (inside ++ (closing ++ rest))) n.no_bracket (begins (put (Sign (codes "(")) opening (inside ++ (closing ++ rest)) o)) (subst (Begins (IsSign sign)) same at)
   primary_first (suc depth) e sign ws rest n (hash called opening front inside back closing m o f h b c j) at =
       let t = (front ++ inside ++ back) ++ (closing ++ rest) in
       let same : ws ++ rest ≡ called ++ (opening ++ t) = joined_as (called ++ opening ++ (front ++ inside ++ back)) closing rest j ∙ append_assoc (called ++ opening) (front ++ inside ++ back) (closing ++ rest) ∙ append_assoc called opening t in

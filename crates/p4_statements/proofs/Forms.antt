@@ -5,11 +5,11 @@ use Rattle.elastic_ast.specs.Tree.{Name, PlainExpr, PlainStmt, PlainStmts}
 use Rattle.spelling.specs.Words.{Word}
 use Rattle.spelling.specs.Grammar.{Grammar, ◌⨟◌, Begins, Bracketed, IsReserved, IsSign, Reserved, Sign, is_reserved, is_sign}
 use Rattle.spelling.specs.Reading.{MayTake}
-use Rattle.spelling.proofs.Only.{alone, begins_as, begins_both, begins_first, not_sign, other_text, regroup, reserved_no_sign, split}
+use Rattle.spelling.proofs.Only.{alone, begins_as, begins_both, begins_first, no_sign, not_sign, other_text, regroup, reserved_no_sign, split}
 use Rattle.spelling.proofs.Peeling.{past_none}
 use Rattle.p4_statements.specs.Statements.{SpellsApply, SpellsBranch, SpellsCall, SpellsCondition, SpellsPlain, SpellsStage, SpellsStmt, SpellsStmts, SpellsTurns, is_bare_block, block, without_else, with_else, repeated, called, applied, simple, in_brackets, alone as one_statement}
 use Rattle.p4_statements.specs.Reading.{EndsStmt, SpellsSimple}
-use Rattle.p4_statements.proofs.Ahead.{by_simple, not_both, plain_first, plain_simple}
+use Rattle.p4_statements.proofs.Ahead.{by_simple, plain_first, plain_simple}
 
 -- words in a row
 row_of_four : {ws : List Word} (a b c d : List Word) → ws ≡ a ++ (b ++ (c ++ d)) → ws ≡ a ++ b ++ c ++ d
@@ -217,7 +217,7 @@ is_simple more open_end stmt {a = a} m no_open no_stage no_if no_for =
 pub stmt_no_closing : (more : ℕ) (open_end : Bool) (stmt : PlainStmt) {a c : List Word} → MayTake (SpellsStmt more open_end stmt) a c → Begins (IsSign (codes "}")) a → ⊥
 stmt_no_closing more open_end stmt {a = a} m at =
     elim (stmt_form more open_end stmt m) [
-      | a_block p w ↦ no_brace a (λ h. not_both (codes "{") (codes "}") a refl h at) (λ h. not_both (codes "@") (codes "}") a refl h at) w
+      | a_block p w ↦ no_brace a (λ h. no_sign (codes "{") (codes "}") a refl h at) (λ h. no_sign (codes "@") (codes "}") a refl h at) w
       | an_if p w ↦ reserved_no_sign_there (codes "if") (codes "}") a w at
       | an_else p w ↦ reserved_no_sign_there (codes "if") (codes "}") a w at
       | a_for p w ↦ reserved_no_sign_there (codes "for") (codes "}") a w at
@@ -256,7 +256,7 @@ bare_staged more None body m other at = absurd cc
 bare_staged more (Some stage) body {a = a} m other at =
     let s = (split m).first in
     let stage_sign : Begins (IsSign (codes "@")) a = begins_first record { front = s.front; joined = s.joined; spelled = s.spelled.1 } in
-    not_both (codes "@") (codes "{") a refl stage_sign at
+    no_sign (codes "@") (codes "{") a refl stage_sign at
 
 simple_bare : (depth : ℕ) (stmt : PlainStmt) {a c : List Word} → MayTake (SpellsSimple depth stmt) a c → is_bare_block stmt ≡ false
 simple_bare depth stmt m = by_simple depth (λ s. is_bare_block s ≡ false) stmt m (λ action index args f. refl) (λ table f. refl) (λ plain f. plain_bare depth plain f.front f.spelled)

@@ -3,9 +3,8 @@ use Rattle.std.proofs.Common.{◌≡◌, ℕ, ◌<◌, ◌^◌, List, Option, So
 use Rattle.spelling.specs.Words.{Word}
 use Rattle.spelling.specs.Grammar.{◌⨟◌, Begins, Bracketed, IsSign, Named, Num, Sign}
 use Rattle.spelling.specs.Reading.{MayTake}
-use Rattle.spelling.proofs.Only.{begins_first, empty_same, fact_of, of_where}
+use Rattle.spelling.proofs.Only.{begins_first, empty_same, fact_of, no_sign, of_where}
 use Rattle.p4_statements.specs.Statements.{SpellsStage}
-use Rattle.p4_statements.proofs.Ahead.{not_both}
 
 pub record Staged (more : ℕ) (stage : Option ℕ) (a rest : List Word) : Type 0 where
   pub number : ℕ
@@ -14,7 +13,7 @@ pub record Staged (more : ℕ) (stage : Option ℕ) (a rest : List Word) : Type 
   pub ahead : MayTake (Sign (codes "@") ⨟ Named (codes "stage") ⨟ Bracketed (codes "(") (codes ")") more (λ _. Num number)) a rest
 
 pub stage_there : (more : ℕ) (stage : Option ℕ) {a rest : List Word} → MayTake (SpellsStage more stage) a rest → Begins (IsSign (codes "{")) rest → Begins (IsSign (codes "@")) a → Staged more stage a rest
-stage_there more None {rest = rest} m ends at = absurd (not_both (codes "{") (codes "@") rest refl ends (subst (Begins (IsSign (codes "@"))) (empty_same m) at))
+stage_there more None {rest = rest} m ends at = absurd (no_sign (codes "{") (codes "@") rest refl ends (subst (Begins (IsSign (codes "@"))) (empty_same m) at))
 stage_there more (Some number) m ends at = record { number = number; is = refl; within = fact_of m; ahead = of_where m }
 
 pub stage_missing : (more : ℕ) (stage : Option ℕ) {a rest : List Word} → MayTake (SpellsStage more stage) a rest → (Begins (IsSign (codes "@")) a → ⊥) → (None ≡ stage) × (a ≡ rest)

@@ -6,3 +6,6 @@ pub mod ExprFirst
 pub mod Arguments
 pub mod Heads
 pub mod Forms
+pub mod StatementsWithin
+pub mod Lines
+pub mod Begun

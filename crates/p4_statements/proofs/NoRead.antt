@@ -8,7 +8,7 @@ use Rattle.elastic_ast.specs.Tree.{Name, PlainExpr}
 use Rattle.spelling.specs.Words.{Word}
 use Rattle.spelling.specs.Grammar.{Grammar, ◌⨟◌, Named, Sign, TwoTouching, Begins, IsSign, is_reserved, is_sign}
 use Rattle.spelling.specs.Reading.{MayTake}
-use Rattle.spelling.proofs.Only.{alone, begins, begins_both, begins_bracketed, begins_first, empty_same, of_where, opened, regroup, split}
+use Rattle.spelling.proofs.Only.{alone, begins, begins_both, begins_bracketed, begins_first, behind_first, empty_same, no_sign, of_where, opened, regroup, split}
 use Rattle.spelling.proofs.Taking.{may_both}
 use Rattle.p4_expr.specs.Parts.{SpellsBitRange, SpellsCast, SpellsHeader, SpellsIsValid, SpellsLval, SpellsNumber, SpellsTruth}
 use Rattle.p4_expr.specs.Operators.{SpellsOperator, weakest}
@@ -16,7 +16,7 @@ use Rattle.p4_expr.specs.Expressions.{SpellsLevel, SpellsPrefixed, SpellsPrimary
 use Rattle.p4_expr.specs.GoesOn.{EndsIndex}
 use Rattle.p4_expr.proofs.PartSpelling.{ends_index, name_no_number, number_there}
 use Rattle.p4_statements.specs.Reading.{IsReadAhead}
-use Rattle.p4_statements.proofs.Ahead.{at_third, behind_first, earlier_word, not_both}
+use Rattle.p4_statements.proofs.Ahead.{at_third, earlier_word}
 
 -- nothing follows that goes on with a place or a call
 pub record Quiet (ws : List Word) : Type 0 where
@@ -27,8 +27,8 @@ pub record Quiet (ws : List Word) : Type 0 where
 quiet_sign : (sign : List ℕ) {ws : List Word} → bytes_eq sign (codes ".") ≡ false → bytes_eq sign (codes "(") ≡ false → bytes_eq sign (codes "[") ≡ false → Begins (IsSign sign) ws → Quiet ws
 quiet_sign sign {ws = ws} a b c at =
     record {
-      no_dot = not_both sign (codes ".") ws a at;
-      no_call = not_both sign (codes "(") ws b at;
+      no_dot = no_sign sign (codes ".") ws a at;
+      no_call = no_sign sign (codes "(") ws b at;
       no_index = ends_index sign ws c at;
     }
 
@@ -72,12 +72,12 @@ sign_no_name sign ws at read = no_name ws (λ word h is. let e : is_sign word.ki
 after_dot : (ws : List Word) → Begins (IsSign (codes ".")) (drop 1 ws) → IsReadAhead ws → Begins (IsSign (codes "(")) (drop 3 ws)
 after_dot ws dot read =
     elim read.1 [
-      | inl h ↦ absurd (not_both (codes ".") (codes "[") (drop 1 ws) refl dot h.0)
+      | inl h ↦ absurd (no_sign (codes ".") (codes "[") (drop 1 ws) refl dot h.0)
       | inr h ↦ h.2
     ]
 
 after_two_dots : (ws : List Word) → Begins (IsSign (codes ".")) (drop 1 ws) → Begins (IsSign (codes ".")) (drop 3 ws) → IsReadAhead ws → ⊥
-after_two_dots ws dot other read = not_both (codes ".") (codes "(") (drop 3 ws) refl other (after_dot ws dot read)
+after_two_dots ws dot other read = no_sign (codes ".") (codes "(") (drop 3 ws) refl other (after_dot ws dot read)
 
 header_no_read : {Q R : Grammar} (header : Name) {a c : List Word} → MayTake ((SpellsHeader header ⨟ Sign (codes ".") ⨟ Q) ⨟ R) a c → IsReadAhead a → ⊥
 header_no_read header {a = a} m =
@@ -105,7 +105,7 @@ place_no_read depth (lval.Meta of (Some index)) ws rest h q read =
     let m1 = behind_first (put (SpellsLval depth (lval.Meta of (Some index))) ws rest h) in
     let m3 = behind_first (behind_first m1) in
     let at = at_third (Begins (IsSign (codes "["))) (ws ++ rest) (begins_bracketed (codes "[") (codes "]") depth (λ _. Named index) m3) in
-    not_both (codes "[") (codes "(") (drop 3 (ws ++ rest)) refl at (after_dot (ws ++ rest) (begins_first m1) read)
+    no_sign (codes "[") (codes "(") (drop 3 (ws ++ rest)) refl at (after_dot (ws ++ rest) (begins_first m1) read)
 
 name_no_read : {w : Word} {a rest : List Word} → a ≡ w ∷ rest → Quiet rest → IsReadAhead a → ⊥
 name_no_read {a = a} {rest = rest} e q read =
@@ -120,7 +120,7 @@ name_no_read {a = a} {rest = rest} e q read =
 -- nor where a bracket stands second
 call_no_read : (a : List Word) → Begins (IsSign (codes "(")) (drop 1 a) → IsReadAhead a → ⊥
 call_no_read a at read =
-    elim read.1 [ inl h ↦ not_both (codes "(") (codes "[") (drop 1 a) refl at h.0 | inr h ↦ not_both (codes "(") (codes ".") (drop 1 a) refl at h.0 ]
+    elim read.1 [ inl h ↦ no_sign (codes "(") (codes "[") (drop 1 a) refl at h.0 | inr h ↦ no_sign (codes "(") (codes ".") (drop 1 a) refl at h.0 ]
 
 pub cast_begins : (depth width : ℕ) (ws rest : List Word) → SpellsCast depth width ws → Begins (IsSign (codes "(")) (ws ++ rest)
 cast_begins depth width ws rest h = begins_bracketed (codes "(") (codes ")") depth _ (put (SpellsCast depth width) ws rest h)
@@ -135,8 +135,8 @@ range_quiet (suc depth) high low ws rest h =
     let m = of_where (put (SpellsBitRange (suc depth) high low) ws rest h) in
     let at = begins_first m in
     record {
-      no_dot = not_both (codes "[") (codes ".") (ws ++ rest) refl at;
-      no_call = not_both (codes "[") (codes "(") (ws ++ rest) refl at;
+      no_dot = no_sign (codes "[") (codes ".") (ws ++ rest) refl at;
+      no_call = no_sign (codes "[") (codes "(") (ws ++ rest) refl at;
       no_index = λ _. number_there high (drop 1 (ws ++ rest)) (begins_first (regroup (behind_first m)));
     }
 

@@ -5,6 +5,7 @@ use Rattle.spelling.specs.Grammar.{Begins, IsNamed, Named}
 use Rattle.spelling.specs.declared.error.SyntaxError.{SyntaxError}
 use Rattle.spelling.specs.Reading.{IsWant, MayRefuse, MayTake, Takes}
 use Rattle.spelling.proofs.Only.{begins, other_text, same_end, stands}
+use Rattle.spelling.proofs.Bounds.{InLine, in_named}
 use Rattle.p4_statements.specs.Statements.{SpellsValidity}
 
 pub set_taken : (on : Bool) {a b c : List Word} → MayTake (SpellsValidity on) a c → Begins (IsNamed (codes "setValid")) a → Takes (Named (codes "setValid")) a b → (true ≡ on) × (b ≡ c)
@@ -18,3 +19,7 @@ unset_taken false m none t = (refl, same_end m t)
 pub unset_wants : (on : Bool) {a c : List Word} (at : ℕ) (e : SyntaxError) → MayTake (SpellsValidity on) a c → (Begins (IsNamed (codes "setValid")) a → ⊥) → MayRefuse (Begins (IsNamed (codes "setInvalid")) a) at e → IsWant e
 unset_wants true at e m none r = absurd (none (begins m))
 unset_wants false at e m none r = stands at e r (begins m)
+
+pub validity_in_line : (on : Bool) → InLine (SpellsValidity on)
+validity_in_line true = in_named (codes "setValid")
+validity_in_line false = in_named (codes "setInvalid")

@@ -1,3 +1,4 @@
 pub mod Statements
 pub mod ExpressionsIn
 pub mod Reading
+pub mod Begun

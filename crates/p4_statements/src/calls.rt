@@ -1,6 +1,6 @@
 //! Calls of actions and applications of tables.
 
-ghost use Rattle.std.specs.Prelude.{ℕ, ◌≤◌, List, Option, All, codes, IfOk};
+ghost use Rattle.std.specs.Prelude.{ℕ, ◌≤◌, List, Option, All, codes, IfOk, IfErr};
 ghost use Rattle.elastic_ast.specs.Seen.{seen_stmt, seen_exprs};
 ghost use Rattle.elastic_ast.specs.Tree.{PlainExpr, PlainStmt};
 ghost use Rattle.spelling.specs.Words.{Word};
@@ -9,6 +9,8 @@ ghost use Rattle.spelling.specs.Reading.{ahead, Takes, MayTake, IsReading};
 ghost use Rattle.p4_expr.specs.Expressions.{SpellsExpr, HasFewOperators};
 ghost use Rattle.p4_statements.specs.Statements.{SpellsApply, SpellsCall};
 ghost use Rattle.p4_statements.specs.Reading.{HasFew, SpellsSimple};
+ghost use Rattle.spelling.specs.Bounds.{IfTooDeep, Line, OpensNext, Stops};
+ghost use Rattle.p4_expr.specs.Passing.{BoundPassed};
 
 use elastic_ast::{Expr, Stmt};
 use elx_bits::Items;
@@ -21,6 +23,7 @@ pub fn call(alloc: Global, reader: &mut Reader<'_>, depth: u32) -> Result<Stmt, 
     ensures taken { IfOk result (λ stmt. Takes (SpellsSimple depth (seen_stmt stmt)) (ahead reader.old) (ahead reader.new)) }
     ensures few { IfOk result (λ stmt. HasFew (seen_stmt stmt)) }
     ensures only { (more : ℕ) (action : List ℕ) (index : Option (List ℕ)) (args : List PlainExpr) (rest : List Word) → MayTake (SpellsCall more action index args) (ahead reader.old) rest → IsReading ((more ≤ depth) × All HasFewOperators args) seen_stmt (PlainStmt.Call action index args) rest (ahead reader.new) result }
+    ensures deep { IfErr result (IfTooDeep (BoundPassed (Line depth) 0 (ahead reader.old) (ahead reader.new))) }
 {
     let action = reader.name(alloc)?;
     let index = index(alloc, reader, depth)?;
@@ -38,6 +41,7 @@ pub fn apply(alloc: Global, reader: &mut Reader<'_>, depth: u32) -> Result<Stmt,
     ensures taken { IfOk result (λ stmt. Takes (SpellsSimple depth (seen_stmt stmt)) (ahead reader.old) (ahead reader.new)) }
     ensures few { IfOk result (λ stmt. HasFew (seen_stmt stmt)) }
     ensures only { (more : ℕ) (table : List ℕ) (rest : List Word) → MayTake (SpellsApply more table) (ahead reader.old) rest → IsReading (more ≤ depth) seen_stmt (PlainStmt.Apply table) rest (ahead reader.new) result }
+    ensures deep { IfErr result (IfTooDeep (Stops (Line depth) OpensNext (ahead reader.old) (ahead reader.new))) }
 {
     let table = reader.name(alloc)?;
     reader.sign(b".")?;
@@ -52,6 +56,7 @@ fn arguments(alloc: Global, reader: &mut Reader<'_>, depth: u32) -> Result<Items
     ensures taken { IfOk result (λ args. Takes (Bracketed (codes "(") (codes ")") depth (λ inner. Commas (SpellsExpr inner) (seen_exprs args))) (ahead reader.old) (ahead reader.new)) }
     ensures few { IfOk result (λ args. All HasFewOperators (seen_exprs args)) }
     ensures only { (more : ℕ) (args : List PlainExpr) (rest : List Word) → MayTake (Bracketed (codes "(") (codes ")") more (λ inner. Commas (SpellsExpr inner) args)) (ahead reader.old) rest → IsReading ((more ≤ depth) × All HasFewOperators args) seen_exprs args rest (ahead reader.new) result }
+    ensures deep { IfErr result (IfTooDeep (BoundPassed (Line depth) 0 (ahead reader.old) (ahead reader.new))) }
 {
     let inner = reader.open(b"(", depth)?;
     if reader.eat_sign(b")") {
@@ -71,6 +76,7 @@ fn expressions(
     ensures taken { IfOk result (λ args. Takes (Separated (Sign (codes ",")) (SpellsExpr depth) (seen_exprs args)) (ahead reader.old) (ahead reader.new)) }
     ensures few { IfOk result (λ args. All HasFewOperators (seen_exprs args)) }
     ensures only { (more : ℕ) (args : List PlainExpr) (rest : List Word) → MayTake (Separated (Sign (codes ",")) (SpellsExpr more) args) (ahead reader.old) rest → Begins (IsSign (codes ")")) rest → IsReading ((more ≤ depth) × All HasFewOperators args) seen_exprs args rest (ahead reader.new) result }
+    ensures deep { IfErr result (IfTooDeep (BoundPassed (Line depth) 0 (ahead reader.old) (ahead reader.new))) }
 {
     let mut exprs = Items::new(alloc);
     let first = read_expr(alloc, reader, depth)?;

@@ -1,6 +1,6 @@
 //! Plain statements: assignments, reads and writes of registers, and changes of a header's validity.
 
-ghost use Rattle.std.specs.Prelude.{◌≡◌, ℕ, ◌≤◌, ◌↔◌, Bool, IsTrue, List, codes, drop, IfOk, OnOk};
+ghost use Rattle.std.specs.Prelude.{◌≡◌, ℕ, ◌≤◌, ◌↔◌, Bool, IsTrue, List, codes, drop, IfOk, OnOk, IfErr};
 ghost use Rattle.elastic_ast.specs.declared.statements.Lval.{Lval};
 ghost use Rattle.elastic_ast.specs.declared.statements.RegRef.{RegRef};
 ghost use Rattle.elastic_ast.specs.Seen.{seen_stmt, seen_stmts};
@@ -11,6 +11,8 @@ ghost use Rattle.spelling.specs.Reading.{ahead, Takes, MayTake, IsAnswer, IsRead
 ghost use Rattle.p4_expr.specs.Expressions.{HasFewOperators, SpellsExpr};
 ghost use Rattle.p4_statements.specs.Statements.{SpellsPlain, SpellsPlains, SpellsValidity};
 ghost use Rattle.p4_statements.specs.Reading.{Assigns, HasFew, HaveFew, IsReadAhead, ReadsInto, SpellsReadOf};
+ghost use Rattle.spelling.specs.Bounds.{IfTooDeep, IsNeverDeep, Line, Opens, OpensNext, Stops};
+ghost use Rattle.p4_expr.specs.Passing.{BoundPassed};
 
 use crate::brackets::{bracketed, two};
 use elastic_ast::{Lval, Stmt};
@@ -30,6 +32,7 @@ pub fn plain_statements(
     ensures few { IfOk result (λ stmts. HaveFew (seen_stmts stmts)) }
     ensures ended { OnOk result (Begins (IsSign (codes "}")) (ahead reader.new)) }
     ensures only { (more : ℕ) (stmts : PlainStmts) (rest : List Word) → MayTake (SpellsPlains more stmts) (ahead reader.old) rest → Begins (IsSign (codes "}")) rest → IsReading ((more ≤ depth) × HaveFew stmts) seen_stmts stmts rest (ahead reader.new) result }
+    ensures deep { IfErr result (IfTooDeep (BoundPassed (Opens depth) 0 (ahead reader.old) (ahead reader.new))) }
 {
     let mut stmts = Items::new(alloc);
     'stmts: while !reader.is_at_sign(b"}") {
@@ -48,6 +51,7 @@ pub fn plain_statement(
     ensures taken { IfOk result (λ stmt. Takes (SpellsPlain depth (seen_stmt stmt)) (ahead reader.old) (ahead reader.new)) }
     ensures few { IfOk result (λ stmt. HasFew (seen_stmt stmt)) }
     ensures only { (more : ℕ) (stmt : PlainStmt) (rest : List Word) → MayTake (SpellsPlain more stmt) (ahead reader.old) rest → IsReading ((more ≤ depth) × HasFew stmt) seen_stmt stmt rest (ahead reader.new) result }
+    ensures deep { IfErr result (IfTooDeep (BoundPassed (Line depth) 0 (ahead reader.old) (ahead reader.new))) }
 {
     if is_at_write(reader) {
         return write(alloc, reader, depth);
@@ -101,6 +105,7 @@ fn write(alloc: Global, reader: &mut Reader<'_>, depth: u32) -> Result<Stmt, Syn
     ensures taken { IfOk result (λ stmt. Takes (SpellsPlain depth (seen_stmt stmt)) (ahead reader.old) (ahead reader.new)) }
     ensures few { IfOk result (λ stmt. HasFew (seen_stmt stmt)) }
     ensures only { (more : ℕ) (register : RegRef) (cell value : PlainExpr) (rest : List Word) → MayTake (SpellsPlain more (PlainStmt.Write register cell value)) (ahead reader.old) rest → IsReading ((more ≤ depth) × HasFew (PlainStmt.Write register cell value)) seen_stmt (PlainStmt.Write register cell value) rest (ahead reader.new) result }
+    ensures deep { IfErr result (IfTooDeep (BoundPassed (Line depth) 0 (ahead reader.old) (ahead reader.new))) }
 {
     let reg = register(alloc, reader, depth)?;
     reader.sign(b".")?;
@@ -115,6 +120,7 @@ fn validity(alloc: Global, reader: &mut Reader<'_>, depth: u32) -> Result<Stmt, 
     ensures taken { IfOk result (λ stmt. Takes (SpellsPlain depth (seen_stmt stmt)) (ahead reader.old) (ahead reader.new)) }
     ensures few { IfOk result (λ stmt. HasFew (seen_stmt stmt)) }
     ensures only { (more : ℕ) (header : List ℕ) (on : Bool) (rest : List Word) → MayTake (SpellsPlain more (PlainStmt.Valid header on)) (ahead reader.old) rest → IsReading (more ≤ depth) seen_stmt (PlainStmt.Valid header on) rest (ahead reader.new) result }
+    ensures deep { IfErr result (IfTooDeep (Stops (Line depth) OpensNext (ahead reader.old) (ahead reader.new))) }
 {
     let header = header(alloc, reader)?;
     reader.sign(b".")?;
@@ -128,6 +134,7 @@ fn validity(alloc: Global, reader: &mut Reader<'_>, depth: u32) -> Result<Stmt, 
 fn change(reader: &mut Reader<'_>) -> Result<bool, SyntaxError>
     ensures taken { IfOk result (λ on. Takes (SpellsValidity on) (ahead reader.old) (ahead reader.new)) }
     ensures only { (on : Bool) (rest : List Word) → MayTake (SpellsValidity on) (ahead reader.old) rest → IsAnswer (λ read. read) on rest (ahead reader.new) result }
+    ensures shallow { IfErr result IsNeverDeep }
 {
     if reader.is_at_name(b"setValid") {
         reader.fixed_name(b"setValid")?;
@@ -141,6 +148,7 @@ fn change(reader: &mut Reader<'_>) -> Result<bool, SyntaxError>
 fn read(alloc: Global, reader: &mut Reader<'_>, depth: u32, to: Lval) -> Result<Stmt, SyntaxError>
     ensures taken { IfOk result (λ stmt. ReadsInto depth to (ahead reader.old) (ahead reader.new) (seen_stmt stmt)) }
     ensures only { (more : ℕ) (register : RegRef) (cell : PlainExpr) (rest : List Word) → MayTake (SpellsReadOf more register cell) (ahead reader.old) rest → IsReading ((more ≤ depth) × HasFewOperators cell) seen_stmt (PlainStmt.Read to register cell) rest (ahead reader.new) result }
+    ensures deep { IfErr result (IfTooDeep (BoundPassed (Line depth) 0 (ahead reader.old) (ahead reader.new))) }
 {
     let reg = register(alloc, reader, depth)?;
     reader.sign(b".")?;
@@ -154,6 +162,7 @@ fn read(alloc: Global, reader: &mut Reader<'_>, depth: u32, to: Lval) -> Result<
 fn assign(alloc: Global, reader: &mut Reader<'_>, depth: u32, to: Lval) -> Result<Stmt, SyntaxError>
     ensures taken { IfOk result (λ stmt. Assigns depth to (ahead reader.old) (ahead reader.new) (seen_stmt stmt)) }
     ensures only { (more : ℕ) (value : PlainExpr) (rest : List Word) → MayTake (SpellsExpr more value ⨟ Sign (codes ";")) (ahead reader.old) rest → IsReading ((more ≤ depth) × HasFewOperators value) seen_stmt (PlainStmt.Assign to value) rest (ahead reader.new) result }
+    ensures deep { IfErr result (IfTooDeep (BoundPassed (Line depth) 0 (ahead reader.old) (ahead reader.new))) }
 {
     let value = read_expr(alloc, reader, depth)?;
     reader.sign(b";")?;

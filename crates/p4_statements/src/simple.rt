@@ -1,12 +1,14 @@
 //! Statements that have no statement in them.
 
-ghost use Rattle.std.specs.Prelude.{ℕ, ◌≤◌, ◌↔◌, IsTrue, List, codes, drop, IfOk};
+ghost use Rattle.std.specs.Prelude.{ℕ, ◌≤◌, ◌↔◌, IsTrue, List, codes, drop, IfOk, IfErr};
 ghost use Rattle.elastic_ast.specs.Seen.{seen_stmt};
 ghost use Rattle.elastic_ast.specs.Tree.{PlainStmt};
 ghost use Rattle.spelling.specs.Words.{Word};
 ghost use Rattle.spelling.specs.Grammar.{Begins, IsNamed, IsSign};
 ghost use Rattle.spelling.specs.Reading.{ahead, Takes, MayTake, IsReading};
 ghost use Rattle.p4_statements.specs.Reading.{HasFew, SpellsSimple};
+ghost use Rattle.spelling.specs.Bounds.{IfTooDeep, Line};
+ghost use Rattle.p4_expr.specs.Passing.{BoundPassed};
 
 use crate::calls::{apply, call};
 use crate::plain::plain_statement;
@@ -24,6 +26,7 @@ pub fn simple_statement(
     ensures taken { IfOk result (λ stmt. Takes (SpellsSimple depth (seen_stmt stmt)) (ahead reader.old) (ahead reader.new)) }
     ensures few { IfOk result (λ stmt. HasFew (seen_stmt stmt)) }
     ensures only { (more : ℕ) (stmt : PlainStmt) (rest : List Word) → MayTake (SpellsSimple more stmt) (ahead reader.old) rest → IsReading ((more ≤ depth) × HasFew stmt) seen_stmt stmt rest (ahead reader.new) result }
+    ensures deep { IfErr result (IfTooDeep (BoundPassed (Line depth) 0 (ahead reader.old) (ahead reader.new))) }
 {
     if is_at_call(reader) {
         return call(alloc, reader, depth);

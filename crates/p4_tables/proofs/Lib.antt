@@ -2,3 +2,4 @@ mod EntrySpelling
 mod PropertySpelling
 mod SetSpelling
 mod TableSpelling
+pub mod TablesWithin

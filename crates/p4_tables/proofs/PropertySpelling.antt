@@ -1,11 +1,11 @@
 -- The first words of a property say of which kind it is.
-use Rattle.std.proofs.Common.{◌≡◌, ℕ, List, [], ◌∷◌, bytes_eq, codes, cond, drop, false, ◌⊎◌, inl, inr, refl, sym, ap, ◌∙◌, arith}
+use Rattle.std.proofs.Common.{◌≡◌, ℕ, List, bytes_eq, codes, cond, drop, false, ◌⊎◌, inl, inr, refl, sym, ap, ◌∙◌, arith}
 use Rattle.elastic_ast.specs.Tree.{PlainExpr}
 use Rattle.spelling.specs.Words.{Word}
-use Rattle.spelling.specs.Grammar.{Grammar, ◌⨟◌, Begins, IsNamed, IsReserved, One}
+use Rattle.spelling.specs.Grammar.{Begins, IsNamed, IsReserved}
 use Rattle.spelling.specs.Reading.{MayTake}
 use Rattle.spelling.proofs.Only.{begins_both, begins_first, of_where, other_text, split, which}
-use Rattle.spelling.proofs.Peeling.{past_none, peel}
+use Rattle.spelling.proofs.Peeling.{begins_second, past_none}
 use Rattle.spelling.proofs.Taking.{may_both}
 use Rattle.p4_tables.specs.Tables.{Property, SpellsProperty, kind_of}
 
@@ -17,18 +17,14 @@ FirstWords (Property.Fallback action arguments) ws = Begins (IsNamed (codes "def
 FirstWords (Property.Size size) ws = Begins (IsNamed (codes "size")) ws
 FirstWords (Property.Entries entries) ws = Begins (IsReserved (codes "const")) ws × Begins (IsNamed (codes "entries")) (drop 1 ws)
 
-second_begins : {F G : Word → Type 0} {Q : Grammar} {c : List Word} (a : List Word) → MayTake (One F ⨟ One G ⨟ Q) a c → Begins G (drop 1 a)
-second_begins [] m = absurd (begins_first m)
-second_begins (word ∷ ws) m = begins_first (peel m)
-
 pub first_words : (depth : ℕ) (property : Property) {a c : List Word} → MayTake (SpellsProperty depth property) a c → FirstWords property a
 first_words depth (Property.Keys keys) m = begins_first m
 first_words depth (Property.Actions names) m = begins_first m
 first_words depth (Property.Fallback action arguments) {a = a} m =
     let s = split m in
-    elim (which s.first) [ inl none ↦ inl (begins_first (past_none (may_both none s.second))) | inr const ↦ inr (begins_first (may_both const s.second), second_begins a (may_both const s.second)) ]
+    elim (which s.first) [ inl none ↦ inl (begins_first (past_none (may_both none s.second))) | inr const ↦ inr (begins_first (may_both const s.second), begins_second a (may_both const s.second)) ]
 first_words depth (Property.Size size) m = begins_first (of_where m)
-first_words depth (Property.Entries entries) {a = a} m = (begins_first m, second_begins a m)
+first_words depth (Property.Entries entries) {a = a} m = (begins_first m, begins_second a m)
 
 -- the number of the kind that has this name
 abbrev pub kind_by : List ℕ → ℕ

@@ -1,6 +1,6 @@
 //! The properties of a table.
 
-ghost use Rattle.std.specs.Prelude.{◌≡◌, ℕ, ◌≤◌, List, codes, IfOk, OnOk};
+ghost use Rattle.std.specs.Prelude.{◌≡◌, ℕ, ◌≤◌, List, codes, IfOk, OnOk, IfErr};
 ghost use Rattle.spelling.specs.Grammar.{Begins, Either, Empty, IsNamed, Reserved};
 ghost use Rattle.elastic_ast.specs.Tree.{PlainEntry, PlainExpr};
 ghost use Rattle.elastic_ast.specs.declared.declarations.Key.{Key};
@@ -8,6 +8,7 @@ ghost use Rattle.spelling.specs.Words.{Word};
 ghost use Rattle.spelling.specs.Reading.{ahead, Takes, MayTake, IsAnswer, IsRead, IsReading};
 ghost use Rattle.p4_tables.specs.Seen.{number_of, seen_part};
 ghost use Rattle.p4_tables.specs.Tables.{Property, SpellsProperty, kind_of};
+ghost use Rattle.spelling.specs.Bounds.{IfTooDeep, IsNeverDeep, Opens, OpensNext, Stops};
 
 use crate::entries::{entries, keys, names};
 use crate::sets::values;
@@ -54,7 +55,8 @@ impl Part {
 /// The kind of the property that begins at the next token. NotProgram where none begins there: it names that token, or the one
 /// behind it where that doesn't go on `const`.
 pub fn kind_ahead(reader: &Reader<'_>) -> Result<Kind, SyntaxError>
-    ensures { (depth : ℕ) (property : Property) (rest : List Word) → MayTake (SpellsProperty depth property) (ahead reader.now) rest → IsRead number_of (kind_of property) result }
+    ensures only { (depth : ℕ) (property : Property) (rest : List Word) → MayTake (SpellsProperty depth property) (ahead reader.now) rest → IsRead number_of (kind_of property) result }
+    ensures shallow { IfErr result IsNeverDeep }
 {
     if reader.is_at_name(b"key") {
         return Ok(Kind::Keys);
@@ -91,6 +93,7 @@ pub fn property(
     ensures taken { IfOk result (λ part. Takes (SpellsProperty depth (seen_part part)) (ahead reader.old) (ahead reader.new)) }
     ensures kind { IfOk result (λ part. kind_of (seen_part part) ≡ number_of kind) }
     ensures only { (more : ℕ) (property : Property) (rest : List Word) → kind_of property ≡ number_of kind → MayTake (SpellsProperty more property) (ahead reader.old) rest → IsReading (more ≤ depth) seen_part property rest (ahead reader.new) result }
+    ensures deep { IfErr result (IfTooDeep (Stops (Opens depth) OpensNext (ahead reader.old) (ahead reader.new))) }
 {
     match kind {
         Kind::Keys => keys_part(alloc, reader, depth),
@@ -106,6 +109,7 @@ fn keys_part(alloc: Global, reader: &mut Reader<'_>, depth: u32) -> Result<Part,
     ensures taken { IfOk result (λ part. Takes (SpellsProperty depth (seen_part part)) (ahead reader.old) (ahead reader.new)) }
     ensures kind { IfOk result (λ part. kind_of (seen_part part) ≡ 0) }
     ensures only { (more : ℕ) (keys : List Key) (rest : List Word) → MayTake (SpellsProperty more (Property.Keys keys)) (ahead reader.old) rest → IsReading (more ≤ depth) seen_part (Property.Keys keys) rest (ahead reader.new) result }
+    ensures deep { IfErr result (IfTooDeep (Stops (Opens depth) OpensNext (ahead reader.old) (ahead reader.new))) }
 {
     reader.fixed_name(b"key")?;
     reader.sign(b"=")?;
@@ -120,6 +124,7 @@ fn actions_part(alloc: Global, reader: &mut Reader<'_>, depth: u32) -> Result<Pa
     ensures taken { IfOk result (λ part. Takes (SpellsProperty depth (seen_part part)) (ahead reader.old) (ahead reader.new)) }
     ensures kind { IfOk result (λ part. kind_of (seen_part part) ≡ 1) }
     ensures only { (more : ℕ) (names : List (List ℕ)) (rest : List Word) → MayTake (SpellsProperty more (Property.Actions names)) (ahead reader.old) rest → IsReading (more ≤ depth) seen_part (Property.Actions names) rest (ahead reader.new) result }
+    ensures deep { IfErr result (IfTooDeep (Stops (Opens depth) OpensNext (ahead reader.old) (ahead reader.new))) }
 {
     reader.fixed_name(b"actions")?;
     reader.sign(b"=")?;
@@ -134,6 +139,7 @@ fn fallback_part(alloc: Global, reader: &mut Reader<'_>, depth: u32) -> Result<P
     ensures taken { IfOk result (λ part. Takes (SpellsProperty depth (seen_part part)) (ahead reader.old) (ahead reader.new)) }
     ensures kind { IfOk result (λ part. kind_of (seen_part part) ≡ 2) }
     ensures only { (more : ℕ) (action : List ℕ) (args : List PlainExpr) (rest : List Word) → MayTake (SpellsProperty more (Property.Fallback action args)) (ahead reader.old) rest → IsReading (more ≤ depth) seen_part (Property.Fallback action args) rest (ahead reader.new) result }
+    ensures deep { IfErr result (IfTooDeep (Stops (Opens depth) OpensNext (ahead reader.old) (ahead reader.new))) }
 {
     const_before(reader)?;
     reader.fixed_name(b"default_action")?;
@@ -149,6 +155,7 @@ fn size_part(reader: &mut Reader<'_>) -> Result<Part, SyntaxError>
     ensures taken { IfOk result (λ part. (depth : ℕ) → Takes (SpellsProperty depth (seen_part part)) (ahead reader.old) (ahead reader.new)) }
     ensures kind { IfOk result (λ part. kind_of (seen_part part) ≡ 3) }
     ensures only { (depth size : ℕ) (rest : List Word) → MayTake (SpellsProperty depth (Property.Size size)) (ahead reader.old) rest → IsAnswer seen_part (Property.Size size) rest (ahead reader.new) result }
+    ensures shallow { IfErr result IsNeverDeep }
 {
     reader.fixed_name(b"size")?;
     reader.sign(b"=")?;
@@ -162,6 +169,7 @@ fn entries_part(alloc: Global, reader: &mut Reader<'_>, depth: u32) -> Result<Pa
     ensures taken { IfOk result (λ part. Takes (SpellsProperty depth (seen_part part)) (ahead reader.old) (ahead reader.new)) }
     ensures kind { IfOk result (λ part. kind_of (seen_part part) ≡ 4) }
     ensures only { (more : ℕ) (entries : List PlainEntry) (rest : List Word) → MayTake (SpellsProperty more (Property.Entries entries)) (ahead reader.old) rest → IsReading (more ≤ depth) seen_part (Property.Entries entries) rest (ahead reader.new) result }
+    ensures deep { IfErr result (IfTooDeep (Stops (Opens depth) OpensNext (ahead reader.old) (ahead reader.new))) }
 {
     reader.reserved(b"const")?;
     reader.fixed_name(b"entries")?;
@@ -176,6 +184,7 @@ fn entries_part(alloc: Global, reader: &mut Reader<'_>, depth: u32) -> Result<Pa
 fn const_before(reader: &mut Reader<'_>) -> Result<(), SyntaxError>
     ensures taken { OnOk result (MayTake (Either Empty (Reserved (codes "const"))) (ahead reader.old) (ahead reader.new)) }
     ensures only { (rest : List Word) → MayTake (Either Empty (Reserved (codes "const"))) (ahead reader.old) rest → Begins (IsNamed (codes "default_action")) rest → IsAnswer (λ read. read) tt rest (ahead reader.new) result }
+    ensures shallow { IfErr result IsNeverDeep }
 {
     if !reader.is_at_reserved(b"const") {
         return Ok(());

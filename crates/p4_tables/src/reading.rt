@@ -1,6 +1,6 @@
 //! A whole table.
 
-ghost use Rattle.std.specs.Prelude.{◌≡◌, ◌≢◌, ℕ, ◌≤◌, ◌↔◌, false, List, All, AllPairs, map, codes, IfOk};
+ghost use Rattle.std.specs.Prelude.{◌≡◌, ◌≢◌, ℕ, ◌≤◌, ◌↔◌, false, List, All, AllPairs, map, codes, IfOk, IfErr};
 ghost use Rattle.elastic_ast.specs.Seen.{seen_table};
 ghost use Rattle.elastic_ast.specs.Tree.{PlainTable};
 ghost use Rattle.spelling.specs.Words.{Word};
@@ -8,6 +8,7 @@ ghost use Rattle.spelling.specs.Grammar.{Begins, Each, IsSign};
 ghost use Rattle.spelling.specs.Reading.{ahead, Takes, MayTake, IsReading};
 ghost use Rattle.p4_tables.specs.Seen.{number_of, seen_part};
 ghost use Rattle.p4_tables.specs.Tables.{Property, SpellsProperty, SpellsTable, kind_of, table_with, with_property};
+ghost use Rattle.spelling.specs.Bounds.{IfTooDeep, Opens, OpensNext, Stops};
 
 use crate::properties::{Kind, Part, kind_ahead, property};
 use elastic_ast::Table;
@@ -21,6 +22,7 @@ use std::alloc::Global;
 pub fn table(alloc: Global, reader: &mut Reader<'_>, depth: u32) -> Result<Table, SyntaxError>
     ensures taken { IfOk result (λ table. Takes (SpellsTable depth (seen_table table)) (ahead reader.old) (ahead reader.new)) }
     ensures only { (more : ℕ) (table : PlainTable) (rest : List Word) → MayTake (SpellsTable more table) (ahead reader.old) rest → IsReading (more ≤ depth) seen_table table rest (ahead reader.new) result }
+    ensures deep { IfErr result (IfTooDeep (Stops (Opens depth) OpensNext (ahead reader.old) (ahead reader.new))) }
 {
     reader.reserved(b"table")?;
     let name = reader.name(alloc)?;
@@ -39,6 +41,7 @@ fn properties(
     ensures taken { IfOk result (λ parts. MayTake (Each (SpellsProperty depth) (map seen_part parts)) (ahead reader.old) (ahead reader.new)) }
     ensures no_two { IfOk result (λ parts. AllPairs (λ one other. kind_of one ≢ kind_of other) (map seen_part parts)) }
     ensures only { (more : ℕ) (properties : List Property) (rest : List Word) → MayTake (Each (SpellsProperty more) properties) (ahead reader.old) rest → AllPairs (λ one other. kind_of one ≢ kind_of other) properties → Begins (IsSign (codes "}")) rest → IsReading (more ≤ depth) (map seen_part) properties rest (ahead reader.new) result }
+    ensures deep { IfErr result (IfTooDeep (Stops (Opens depth) OpensNext (ahead reader.old) (ahead reader.new))) }
 {
     let mut parts = Items::new(alloc);
     'parts: while !reader.is_at_sign(b"}") {
@@ -58,6 +61,7 @@ fn other_property(
     ensures taken { IfOk result (λ part. Takes (SpellsProperty depth (seen_part part)) (ahead reader.old) (ahead reader.new)) }
     ensures other { IfOk result (λ part. All (λ one. kind_of one ≢ kind_of (seen_part part)) (map seen_part parts.now)) }
     ensures only { (more : ℕ) (property : Property) (rest : List Word) → MayTake (SpellsProperty more property) (ahead reader.old) rest → All (λ one. kind_of one ≢ kind_of property) (map seen_part parts.now) → IsReading (more ≤ depth) seen_part property rest (ahead reader.new) result }
+    ensures deep { IfErr result (IfTooDeep (Stops (Opens depth) OpensNext (ahead reader.old) (ahead reader.new))) }
 {
     let kind = kind_ahead(reader)?;
     if is_there(parts, kind) {

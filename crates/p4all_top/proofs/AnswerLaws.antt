@@ -39,26 +39,11 @@ pub source_found : (holds : Option Files) (name bytes given : List ℕ) (found :
 source_found None name bytes given found read e is = tt
 source_found (Some files) name bytes given found read e is = source_in given (bytes_at files name) found (e ∙ read.0) read.1 is
 
--- the target that is found in the bytes of a description that isn't too long
-pub target_found : (holds : Option Files) (name bytes given : List ℕ) (target : Target) → IfSome holds (λ files. IsFileRead 65536 (bytes_at files name) (Some bytes)) → given ≡ bytes → IsTargetFound given (Some target)
-    → IfSome holds (λ files. IsDescriptionFound (bytes_at files name) (Ok target))
-target_found None name bytes given target read e is = tt
-target_found (Some files) name bytes given target read e is = record { short = read.1; described = subst (λ (z : List ℕ). IsTargetFound z (Some target)) (e ∙ read.0) is }
-
--- or that there is none
+-- a description that isn't too long, and describes no target
 pub no_target_found : (holds : Option Files) (name bytes given : List ℕ) → IfSome holds (λ files. IsFileRead 65536 (bytes_at files name) (Some bytes)) → given ≡ bytes → IsTargetFound given None
     → IfSome holds (λ files. IsDescriptionFound (bytes_at files name) (Err refusal.NotYet))
 no_target_found None name bytes given read e is = tt
 no_target_found (Some files) name bytes given read e is = (read.1, subst (λ (z : List ℕ). IsTargetFound z None) (e ∙ read.0) is)
-
--- a file that is too long isn't taken
-pub source_long : (holds : Option Files) (name : List ℕ) → IfSome holds (λ files. IsFileRead 16777216 (bytes_at files name) None) → IfSome holds (λ files. IsSourceFound (bytes_at files name) (Err refusal.LongSource))
-source_long None name read = tt
-source_long (Some files) name read = read
-
-pub target_long : (holds : Option Files) (name : List ℕ) → IfSome holds (λ files. IsFileRead 65536 (bytes_at files name) None) → IfSome holds (λ files. IsDescriptionFound (bytes_at files name) (Err refusal.LongTarget))
-target_long None name read = tt
-target_long (Some files) name read = read
 
 there : (names : List Name) (place : ℕ) → place < length names → (name : Name) × (slice_get names place ≡ Some name)
 there [] place h = absurd (omega arith)

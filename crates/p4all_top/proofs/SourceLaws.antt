@@ -17,10 +17,12 @@ use Rattle.p4_lexer.specs.BadPlaces.{IsBad}
 use Rattle.p4_lexer.specs.Tokens.{TokensOf}
 use Rattle.p4_lexer.proofs.OneReading.{one_list, bad_has_none}
 use Rattle.p4_parser.specs.Declarations.{SpellsProgram}
-use Rattle.p4_parser.specs.ProgramOf.{IsProgramOf}
+use Rattle.p4_parser.specs.ProgramOf.{IsProgramOf, most_brackets}
+use Rattle.p4_parser.specs.Reaching.{ProgramPassed}
 use Rattle.p4_parser.specs.Reading.{ProgramHasFew}
 use Rattle.spelling.specs.declared.error.SyntaxError.{SyntaxError}
 use Rattle.spelling.specs.declared.error.SyntaxError.TheVariants as parsed
+use Rattle.spelling.specs.Bounds.{IfTooDeepAt, PassedAt}
 use Rattle.spelling.specs.Reading.{IsReadWithin, NamesAtMost}
 use Rattle.spelling.specs.Words.{words}
 use Rattle.width_check.specs.declared.checking.CheckError.{CheckError}
@@ -32,13 +34,6 @@ use Rattle.p4all_top.specs.declared.reading.Refusal.TheVariants as refusal
 use Rattle.p4all_top.specs.Refusing.{lexer_refusal, parser_refusal, check_refusal}
 use Rattle.p4all_top.specs.Source.{IsProgram, HasNoProgram, IsOnlyProgram, IsNoSource, IsRefusedBy, IsSourceRefused}
 
--- where the text has no tokens
-pub refused_tokens : (text : List ℕ) (error : LexError) (why : Refusal) → IsBad text error → lexer_refusal error ≡ Some why → IsRefusedBy text why
-refused_tokens text (lexed.BadByte at) why bad e = let same : refusal.Byte at ≡ why = cc in subst (λ (z : Refusal). IsRefusedBy text z) same bad
-refused_tokens text (lexed.BadNumber at) why bad e = let same : refusal.Number at ≡ why = cc in subst (λ (z : Refusal). IsRefusedBy text z) same bad
-refused_tokens text (lexed.OpenComment at) why bad e = let same : refusal.Comment at ≡ why = cc in subst (λ (z : Refusal). IsRefusedBy text z) same bad
-refused_tokens text lexed.Memory why bad e = absurd (cc e)
-
 abbrev OnlyReads : List ℕ → List Token → Result Program SyntaxError → Type 0
 OnlyReads text given result = (more : ℕ) (program : PlainProgram) → SpellsProgram more program (words text given) → IsReadWithin ((more ≤ 80) × ProgramHasFew program) seen_program program result
 
@@ -48,9 +43,9 @@ spelled_by text tokens given program of e spells =
     subst (λ (z : List Token). SpellsProgram 80 program (words text z)) (one_list text spells.tokens tokens spells.tokens_are of ∙ sym e) spells.spelled
 
 -- where the tokens spell nothing
-pub refused_tree : (text : List ℕ) (tokens given : List Token) (error : SyntaxError) (why : Refusal) → TokensOf text tokens → given ≡ tokens → OnlyReads text given (Err error) → NamesAtMost (length given) error → parser_refusal error ≡ Some why
+pub refused_tree : (text : List ℕ) (tokens given : List Token) (error : SyntaxError) (why : Refusal) → TokensOf text tokens → given ≡ tokens → OnlyReads text given (Err error) → NamesAtMost (length given) error → IfTooDeepAt (PassedAt (ProgramPassed most_brackets) text given 0) error → parser_refusal error ≡ Some why
     → IsRefusedBy text why
-refused_tree text tokens given (parsed.NotProgram token) why of e only named is =
+refused_tree text tokens given (parsed.NotProgram token) why of e only named deep is =
     let same : refusal.Syntax token ≡ why = cc in
     subst (λ (z : Refusal). IsRefusedBy text z) same record {
       tokens = given;
@@ -58,15 +53,15 @@ refused_tree text tokens given (parsed.NotProgram token) why of e only named is 
       within = named;
       none = only;
     }
-refused_tree text tokens given (parsed.TooDeep token) why of e only named is =
+refused_tree text tokens given (parsed.TooDeep token) why of e only named deep is =
     let same : refusal.Deep token ≡ why = cc in
     subst (λ (z : Refusal). IsRefusedBy text z) same record {
       tokens = given;
       tokens_are = subst (λ (z : List Token). TokensOf text z) (sym e) of;
-      within = named;
+      passed = deep;
       none = λ program spells. only 80 program (spelled_by text tokens given program of e spells) (omega arith, spells.few);
     }
-refused_tree text tokens given parsed.Memory why of e only named is = absurd (cc is)
+refused_tree text tokens given parsed.Memory why of e only named deep is = absurd (cc is)
 
 -- what the parser gives of the tokens of a text
 pub record IsParsed (text : List ℕ) (tokens given : List Token) (tree : Program) : Type 0 where

@@ -10,7 +10,9 @@ use Rattle.p4_lexer.specs.declared.token.Token.{Token}
 use Rattle.p4_lexer.specs.BadPlaces.{IsBad}
 use Rattle.p4_lexer.specs.Tokens.{TokensOf}
 use Rattle.p4_parser.specs.Declarations.{SpellsProgram}
-use Rattle.p4_parser.specs.ProgramOf.{IsProgramOf}
+use Rattle.p4_parser.specs.ProgramOf.{IsProgramOf, most_brackets}
+use Rattle.p4_parser.specs.Reaching.{ProgramPassed}
+use Rattle.spelling.specs.Bounds.{PassedAt}
 use Rattle.spelling.specs.Words.{words}
 use Rattle.width_check.specs.Begun.{is_begun, HasOther}
 use Rattle.p4all_top.specs.declared.reading.Refusal.{Refusal}
@@ -40,12 +42,12 @@ pub record SpellsNothing (text : List ℕ) (token : ℕ) : Type 0 where
   pub within : token ≤ length tokens
   pub none : (depth : ℕ) (program : PlainProgram) → SpellsProgram depth program (words text tokens) → ⊥
 
--- the text has tokens, this one or the end of them among them, and they spell no program within the numbers of brackets and
--- operators that the language allows
+-- the text has tokens, this one among them, and it passes the number of brackets or that of operators that the language allows: so they
+-- spell no program within the two
 pub record SpellsTooDeep (text : List ℕ) (token : ℕ) : Type 0 where
   pub tokens : List Token
   pub tokens_are : TokensOf text tokens
-  pub within : token ≤ length tokens
+  pub passed : PassedAt (ProgramPassed most_brackets) text tokens 0 token
   pub none : (program : PlainProgram) → IsProgramOf text program → ⊥
 
 -- the text spells one program and no other, which has other declarations or isn't typed

@@ -29,7 +29,7 @@ pub enum Refusal {
     Comment { at: u32 },
     /// The source is no program. The reading stopped at this token, or at the end of the tokens.
     Syntax { token: u32 },
-    /// The source is no program within the numbers of brackets and operators. This token passes one of them.
+    /// This token of the source passes the number of brackets that may be open, or that of operators of an expression.
     Deep { token: u32 },
     /// The source has other declarations than those that are taken so far, or isn't typed; or the text describes no target.
     NotYet,

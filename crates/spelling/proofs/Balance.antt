@@ -21,7 +21,7 @@ Stays depth Of = (ws : List Word) → Of ws → Within depth ws
 pub none_within : (depth : ℕ) → Within depth []
 none_within depth = record { balanced = λ n. refl; at_most = λ n. omega arith }
 
-behind_both : (n : ℕ) (a b : List Word) → open_behind n (a ++ b) ≡ open_behind (open_behind n a) b
+pub behind_both : (n : ℕ) (a b : List Word) → open_behind n (a ++ b) ≡ open_behind (open_behind n a) b
 behind_both n [] b = refl
 behind_both n (w ∷ a) b = behind_both (open_after n w) a b
 
@@ -114,6 +114,10 @@ sign_opens text w h = and_true (is_sign w.kind) (is_opening w.piece) h.0 ∙ ap 
 
 pub sign_closes : (text : List ℕ) (w : Word) → IsSign text w → closes w ≡ is_closing text
 sign_closes text w h = and_true (is_sign w.kind) (is_closing w.piece) h.0 ∙ ap is_closing h.1
+
+-- behind an opening sign one more is open
+pub open_sign : (text : List ℕ) (n : ℕ) (ws : List Word) → is_opening text ≡ true → Sign text ws → open_behind n ws ≡ n + 1
+open_sign text n ws is h = ap (open_behind n) h.alone ∙ after_opening n (opens h.word) (closes h.word) (sign_opens text h.word h.is_this ∙ is)
 
 pub stays_sign : {depth : ℕ} (text : List ℕ) → is_opening text ≡ false → is_closing text ≡ false → Stays depth (Sign text)
 stays_sign text a b = stays_one (λ w h. (sign_opens text w h ∙ a, sign_closes text w h ∙ b))

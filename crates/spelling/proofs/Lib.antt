@@ -7,3 +7,4 @@ pub mod Deeper
 pub mod Exactly
 pub mod Limits
 pub mod Peeling
+pub mod Bounds

@@ -6,8 +6,7 @@ use Rattle.spelling.specs.Grammar.{Grammar, ◌⨟◌, Sign, IsSign, Begins, Bra
 use Rattle.spelling.specs.declared.error.SyntaxError.{SyntaxError}
 use Rattle.spelling.specs.declared.error.SyntaxError.TheVariants as error
 use Rattle.spelling.specs.Reading.{Takes, MayTake, MayNotOpen, IsWant, WantsOr, IsSameRefusal, IsAnswer, IsReading, IsReadWithin}
-use Rattle.spelling.proofs.Only.{after_one, begins_first, regroup, split}
-use Rattle.spelling.proofs.Taking.{may_both}
+use Rattle.spelling.proofs.Only.{after_one, begins_first}
 
 -- want of memory alone
 pub want_or : (Few : Type 0) (e : SyntaxError) → IsWant e → WantsOr Few e
@@ -65,14 +64,6 @@ pub record Inside (more depth inner : ℕ) (Parts : ℕ → Grammar) (a d : List
 pub inside : (opening closing : List ℕ) (more depth inner : ℕ) (Between : ℕ → Grammar) {a d : List Word} → depth ≡ inner + 1 → MayTake (Bracketed opening closing more Between) a d → Inside more depth inner (λ n. Sign opening ⨟ Between n ⨟ Sign closing) a d
 inside opening closing zero depth inner Between e m = absurd m.spelled
 inside opening closing (suc more) depth inner Between e m = record { within = more; fewer = λ le. omega (arith, le, e); parts = m }
-
--- the same where something follows the brackets
-pub inside_then : (opening closing : List ℕ) (more depth inner : ℕ) (Between : ℕ → Grammar) {Q : Grammar} {a d : List Word} → depth ≡ inner + 1 → MayTake (Bracketed opening closing more Between ⨟ Q) a d → Inside more depth inner (λ n. Sign opening ⨟ Between n ⨟ Sign closing ⨟ Q) a d
-inside_then opening closing more depth inner Between e m =
-    let s = split m in
-    let i = inside opening closing more depth inner Between e s.first in
-    let t = split (regroup (may_both i.parts s.second)) in
-    record { within = i.within; fewer = i.fewer; parts = may_both t.first (regroup t.second) }
 
 -- what stands behind an opening bracket that is read
 pub past_opening : (opening closing : List ℕ) (more depth inner : ℕ) (Between : ℕ → Grammar) {a b d : List Word} → depth ≡ inner + 1 → Takes (Sign opening) a b → MayTake (Bracketed opening closing more Between) a d → Inside more depth inner (λ n. Between n ⨟ Sign closing) b d

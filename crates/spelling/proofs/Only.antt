@@ -1,6 +1,6 @@
 -- What a reader must have taken of words that spell one thing and then another: the same words, up to where the other
 -- begins.
-use Rattle.std.proofs.Common.{◌≡◌, ℕ, zero, suc, ◌+◌, ◌≤◌, Bool, true, false, IsTrue, List, [], ◌∷◌, ◌++◌, None, bytes_eq, cond, Result, Ok, Err, refl, ap, sym, subst, ◌∙◌, append_assoc, add-one, ◌⊎◌, inl, inr}
+use Rattle.std.proofs.Common.{◌≡◌, ℕ, zero, suc, ◌+◌, ◌≤◌, Bool, true, false, IsTrue, List, [], ◌∷◌, ◌++◌, None, bytes_eq, cond, Result, Ok, Err, refl, ap, sym, subst, ◌∙◌, append_assoc, add-one, ◌⊎◌, inl, inr, drop}
 use Rattle.std.proofs.lemmas.Slice.Eq.{bytes_eq-Decides}
 use Rattle.std.proofs.lemmas.Bool.{false≢true}
 use Rattle.std.specs.Result.{IsErrAnd}
@@ -10,7 +10,7 @@ use Rattle.spelling.specs.Words.{Word}
 use Rattle.spelling.specs.Grammar.{Grammar, Empty, Either, Where, ◌⨟◌, One, Sign, Named, Num, IsSign, IsNum, is_sign, is_reserved, Begins, Bracketed}
 use Rattle.spelling.specs.declared.error.SyntaxError.{SyntaxError}
 use Rattle.spelling.specs.declared.error.SyntaxError.TheVariants as error
-use Rattle.spelling.specs.Reading.{Takes, MayTake, MayRefuse, MayNotOpen, IsWant, IsAnswer, IsRead, Ends}
+use Rattle.spelling.specs.Reading.{Takes, MayTake, MayRefuse, IsWant, IsAnswer, Ends}
 use Rattle.spelling.proofs.Taking.{may, may_both, may_empty}
 
 -- where the first of two things ends and the other begins
@@ -96,6 +96,10 @@ after_one {Q = Q} {c = c} m t =
     let s = split m in
     subst (λ ws. MayTake Q ws c) (sym (same_end s.first t)) s.second
 
+-- the words behind the first
+pub behind_first : {F : Word → Type 0} {Q : Grammar} {a c : List Word} → MayTake (One F ⨟ Q) a c → MayTake Q (drop 1 a) c
+behind_first {Q = Q} {c = c} m = let s = split m in subst (λ ws. MayTake Q (drop 1 ws) c) (sym (opened s.first)) s.second
+
 -- a word names one name
 pub same_name : {n k : List ℕ} {a b c : List Word} → MayTake (Named n) a c → Takes (Named k) a b → k ≡ n
 same_name m t = let e = same_word m t in let f = m.spelled.is_this.1 in let g = t.spelled.is_this.1 in cc
@@ -107,10 +111,6 @@ named_same m t = same_name (split m).first t
 pub want_answers : {A B : Type 0} (seen : A → B) (x : B) (rest now : List Word) (e : SyntaxError) (r : Result A SyntaxError) → IsErrAnd r (λ d. d ≡ e) → IsWant e → IsAnswer seen x rest now r
 want_answers seen x rest now e (Ok y) is want = absurd is
 want_answers seen x rest now e (Err d) is want = subst IsWant (sym is) want
-
-pub want_reads : {A B : Type 0} (seen : A → B) (x : B) (e : SyntaxError) (r : Result A SyntaxError) → IsErrAnd r (λ d. d ≡ e) → IsWant e → IsRead seen x r
-want_reads seen x e (Ok y) is want = absurd is
-want_reads seen x e (Err d) is want = subst IsWant (sym is) want
 
 -- what stands there is refused only for want of memory
 pub stands : {Stands : Type 0} (at : ℕ) (e : SyntaxError) → MayRefuse Stands at e → Stands → IsWant e
@@ -148,13 +148,6 @@ pub begins_bracketed : (opening closing : List ℕ) (depth : ℕ) (Between : ℕ
 begins_bracketed opening closing zero Between m = absurd m.spelled
 begins_bracketed opening closing (suc depth) Between m = begins_first m
 
--- an opening bracket within the depth is never refused
-pub wants_open : (opening closing : List ℕ) (depth : ℕ) (Between : ℕ → Grammar) {a d : List Word} (at : ℕ) (e : SyntaxError) → MayTake (Bracketed opening closing depth Between) a d → MayNotOpen (Begins (IsSign opening) a) depth at e → IsWant e
-wants_open opening closing zero Between at e m r = absurd m.spelled
-wants_open opening closing (suc depth) Between at error.Memory m r = tt
-wants_open opening closing (suc depth) Between at (error.NotProgram token) m r = r.1 (begins_first m)
-wants_open opening closing (suc depth) Between at (error.TooDeep token) m r = let e = r.2 in absurd (cc)
-
 -- one word isn't of two texts, nor of two kinds
 pub begins_both : {F G : Word → Type 0} (ws : List Word) → Begins F ws → Begins G ws → (word : Word) × F word × G word
 begins_both [] f g = absurd f
@@ -166,7 +159,7 @@ other_text s t ws differ one other f g =
     let e : s ≡ t = sym (one b.0 b.1) ∙ other b.0 b.2 in
     false≢true (sym differ ∙ (bytes_eq-Decides s t).1 e)
 
-no_sign : (s t : List ℕ) (ws : List Word) → bytes_eq s t ≡ false → Begins (IsSign s) ws → Begins (IsSign t) ws → ⊥
+pub no_sign : (s t : List ℕ) (ws : List Word) → bytes_eq s t ≡ false → Begins (IsSign s) ws → Begins (IsSign t) ws → ⊥
 no_sign s t ws differ f g = other_text s t ws differ (λ word h. h.1) (λ word h. h.1) f g
 
 pub not_sign : {F : Word → Type 0} (t : List ℕ) (ws : List Word) → ((word : Word) → F word → is_sign word.kind ≡ false) → Begins F ws → Begins (IsSign t) ws → ⊥
@@ -200,10 +193,6 @@ ends_sign (t ∷ ts) s ws none b =
 pub ends_other : {F : Word → Type 0} (signs : List (List ℕ)) (ws : List Word) → ((word : Word) → F word → is_sign word.kind ≡ false) → Begins F ws → Ends signs ws
 ends_other [] ws none b = tt
 ends_other (t ∷ ts) ws none b = (not_sign t ws none b, ends_other ts ws none b)
-
--- a name is no sign
-pub ends_name : {n : List ℕ} {Q : Grammar} {a c : List Word} (signs : List (List ℕ)) → MayTake (Named n ⨟ Q) a c → Ends signs a
-ends_name {a = a} signs m = ends_other signs a (λ word h. ap is_sign h.0) (begins_first m)
 
 -- a reserved word is no sign
 pub reserved_no_sign : (k : Kind) → IsTrue (is_reserved k) → is_sign k ≡ false

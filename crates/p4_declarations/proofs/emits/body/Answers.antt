@@ -1,9 +1,11 @@
-use Rattle.std.proofs.Common.{codes}
+use Rattle.std.proofs.Common.{codes, arith, refl}
 use Rattle.spelling.specs.Grammar.{◌⨟◌, Each, Named, Bracketed}
 use Rattle.spelling.proofs.Limits.{want_or, or_as, or_answers, opens_or, past_opening}
 use Rattle.spelling.proofs.Only.{after, after_one, alone, regroup, same_end, wants, wants_one}
 use Rattle.spelling.proofs.Taking.{may, takes_both, takes_bracketed}
 use Rattle.p4_declarations.specs.Flat.{SpellsEmit}
+use Rattle.spelling.proofs.Balance.{stays_named}
+use Rattle.spelling.proofs.Bounds.{deep_answers, even, if_deep, one_open, opens_then, stop_opens}
 use Rattle.p4_declarations.proofs.emits.body.Goals as goal
 
 pub returns-clause-taken : goal.returns-clause-taken
@@ -37,3 +39,8 @@ returns-clause-only c = λ more emits rest m.
     let m2 = after_one (regroup i.parts) c.in_ok-fixed_name.ensures.taken in
     let m3 = after m2 (λ b f s. c.in_ok-emits.ensures.only i.within emits b f) in
     (m3.0, same_end m3.1 c.in_ok-sign.ensures.taken)
+
+pub returns-in_err-emits-clause-deep : goal.returns-in_err-emits-clause-deep
+returns-in_err-emits-clause-deep c =
+    let opened = opens_then 1 0 (one_open (codes "{") refl (may c.in_ok-inner.ensures.taken)) (even c.args.depth (stays_named (codes "apply")) (may c.in_ok-fixed_name.ensures.taken)) in
+    deep_answers _ _ c.from_residual-in_err-emits.result c.from_residual-in_err-emits.ensures.1 (if_deep c.in_err-emits.field-0.0 (λ s. stop_opens c.args.depth 1 c.in_ok-inner.inner (omega (arith, c.in_ok-inner.ensures.depth)) opened s) c.in_err-emits.ensures.deep)

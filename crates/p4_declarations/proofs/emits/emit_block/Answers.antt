@@ -1,9 +1,10 @@
-use Rattle.std.proofs.Common.{codes}
+use Rattle.std.proofs.Common.{codes, arith, refl}
 use Rattle.spelling.specs.Grammar.{Each}
 use Rattle.spelling.proofs.Limits.{want_or, or_as, or_answers, opens_or, past_opening}
 use Rattle.spelling.proofs.Only.{after, alone, begins, same_end, wants, wants_one}
-use Rattle.spelling.proofs.Taking.{takes_bracketed}
+use Rattle.spelling.proofs.Taking.{takes_bracketed, may}
 use Rattle.p4_declarations.specs.Flat.{SpellsEmit}
+use Rattle.spelling.proofs.Bounds.{deep_answers, if_deep, one_open, stop_opens}
 use Rattle.p4_declarations.proofs.emits.emit_block.Goals as goal
 
 pub returns-clause-taken : goal.returns-clause-taken
@@ -29,3 +30,8 @@ returns-clause-only c = λ more emits rest m.
     let i = past_opening (codes "{") (codes "}") more c.args.depth c.in_ok-inner.inner (λ inner. Each (SpellsEmit inner) emits) c.in_ok-inner.ensures.depth c.in_ok-inner.ensures.taken m in
     let m2 = after i.parts (λ b f s. c.in_ok-emits.ensures.only i.within emits b f (begins s)) in
     (m2.0, same_end m2.1 c.in_ok-sign.ensures.taken)
+
+pub returns-in_err-emits-clause-deep : goal.returns-in_err-emits-clause-deep
+returns-in_err-emits-clause-deep c =
+    let opened = one_open (codes "{") refl (may c.in_ok-inner.ensures.taken) in
+    deep_answers _ _ c.from_residual-in_err-emits.result c.from_residual-in_err-emits.ensures.1 (if_deep c.in_err-emits.field-0.0 (λ s. stop_opens c.args.depth 1 c.in_ok-inner.inner (omega (arith, c.in_ok-inner.ensures.depth)) opened s) c.in_err-emits.ensures.deep)

@@ -1,7 +1,10 @@
 use Rattle.spelling.proofs.Limits.{want_or, or_answers}
 use Rattle.spelling.proofs.Only.{after, after_one, alone, named_same, same_end, wants, wants_name, wants_one}
-use Rattle.spelling.proofs.Taking.{may_takes, takes_both}
+use Rattle.spelling.proofs.Taking.{may_takes, takes_both, may}
 use Rattle.p4_declarations.proofs.FieldSpelling.{same_field, name_ends_index}
+use Rattle.std.proofs.Common.{arith}
+use Rattle.spelling.proofs.Bounds.{deep_answers, even, if_deep, line_opens, stop_as, stop_opens}
+use Rattle.p4_expr.proofs.PartsWithin.{bits_stays}
 use Rattle.p4_declarations.proofs.fields.meta_field.Goals as goal
 
 pub returns-clause-taken : goal.returns-clause-taken
@@ -35,3 +38,8 @@ returns-clause-only c = λ more field rest m.
     let m2 = after m1.1 (λ b f s. c.in_ok-size.ensures.only more field.size b f (name_ends_index s)) in
     let m3 = after_one m2.1 c.in_ok-name.ensures.taken in
     (same_field _ field (named_same m2.1 c.in_ok-name.ensures.taken) m1.0 m2.0, same_end m3 c.in_ok-sign.ensures.taken)
+
+pub returns-in_err-size-clause-deep : goal.returns-in_err-size-clause-deep
+returns-in_err-size-clause-deep c =
+    let front = even c.args.depth (bits_stays c.in_ok-width.width) (may c.in_ok-width.ensures.taken) in
+    deep_answers _ _ c.from_residual-in_err-size.result c.from_residual-in_err-size.ensures.1 (if_deep c.in_err-size.field-0.0 (λ s. stop_opens c.args.depth 0 c.args.depth (omega arith) front (stop_as (line_opens c.args.depth) s)) c.in_err-size.ensures.deep)

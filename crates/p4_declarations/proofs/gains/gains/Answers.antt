@@ -1,10 +1,13 @@
-use Rattle.std.proofs.Common.{refl}
+use Rattle.std.proofs.Common.{refl, arith}
 use Rattle.spelling.proofs.Limits.{or_answers}
 use Rattle.spelling.proofs.Only.{after, not_there, wants}
 use Rattle.spelling.proofs.Taking.{may, first_one, later_more}
 use Rattle.spelling.proofs.Whole.{first_of, left_first, left_more, none_left, one_left}
 use Rattle.p4_declarations.specs.Flat.{SpellsFirstGain, SpellsLaterGain}
 use Rattle.p4_declarations.proofs.GainSpelling.{gains_follow, later_there, sign_ahead}
+use Rattle.spelling.proofs.Balance.{stays_first}
+use Rattle.spelling.proofs.Bounds.{deep_answers, even, if_deep, stop_opens}
+use Rattle.p4_declarations.proofs.FlatWithin.{first_gain_stays, later_gain_stays}
 use Rattle.p4_declarations.proofs.gains.gains.Goals as goal
 
 pub gains-init : goal.gains-init
@@ -41,3 +44,8 @@ returns-in_err-gain-clause-only c = λ more all rest m ends.
 pub returns-clause-only : goal.returns-clause-only
 returns-clause-only c = λ more all rest m ends.
     none_left (c.gains.invariant.only more all rest m ends) (λ gain later f. not_there c.gains-test.ensures.1 (later_there more gain f))
+
+pub returns-in_err-gain-clause-deep : goal.returns-in_err-gain-clause-deep
+returns-in_err-gain-clause-deep c =
+    let front = even c.args.depth (stays_first (SpellsFirstGain c.args.depth) (SpellsLaterGain c.args.depth) (first_gain_stays c.args.depth) (later_gain_stays c.args.depth) c.gains.gains) (may c.gains.invariant.taken) in
+    deep_answers _ _ c.from_residual-in_err-gain.result c.from_residual-in_err-gain.ensures.1 (if_deep c.in_err-gain.field-0.0 (λ s. stop_opens c.args.depth 0 c.args.depth (omega arith) front s) c.in_err-gain.ensures.deep)

@@ -1,10 +1,12 @@
-use Rattle.std.proofs.Common.{◌∙◌, ap, sym, refl}
+use Rattle.std.proofs.Common.{◌∙◌, ap, sym, refl, arith}
 use Rattle.spelling.proofs.Limits.{want_or, or_answers}
 use Rattle.spelling.proofs.Only.{after, not_there}
-use Rattle.spelling.proofs.Taking.{takes_both}
+use Rattle.spelling.proofs.Taking.{takes_both, may}
 use Rattle.p4_declarations.proofs.GainSpelling.{is_subtracted, of_later, of_steps, of_product, same_minus}
 use Rattle.p4_declarations.proofs.Terms.{later_term}
 use Rattle.elastic_ast.specs.declared.declarations.UtilTerm.TheVariants as util
+use Rattle.spelling.proofs.Bounds.{deep_answers, even, if_deep, stop_opens}
+use Rattle.p4_declarations.proofs.FlatWithin.{plus_or_minus_stays}
 use Rattle.p4_declarations.proofs.gains.later_gain.Goals as goal
 
 pub returns-in_default-clause-only : goal.returns-in_default-clause-only
@@ -42,3 +44,8 @@ returns-clause-only c = λ more gain rest m ends.
     let t = of_product more gain m1.1 (not_there c.if-is_at_reserved.ensures.1) in
     let r = c.in_ok-term.ensures.only t.term rest (t.minus ∙ same_minus m1.0) t.ahead ends in
     (ap util.Lin r.0 ∙ sym t.is, r.1)
+
+pub returns-in_err-symbol-clause-deep : goal.returns-in_err-symbol-clause-deep
+returns-in_err-symbol-clause-deep c =
+    let front = even c.args.depth (plus_or_minus_stays c.in-Some.minus) (may c.in-Some.ensures.taken) in
+    deep_answers _ _ c.from_residual.result c.from_residual.ensures.1 (if_deep c.in_err-symbol.field-0.0 (λ s. stop_opens c.args.depth 0 c.args.depth (omega arith) front s) c.in_err-symbol.ensures.deep)

@@ -1,7 +1,11 @@
 use Rattle.spelling.proofs.Limits.{want_or, or_answers}
 use Rattle.spelling.proofs.Only.{after, after_one, wants, wants_one}
-use Rattle.spelling.proofs.Taking.{takes_both}
+use Rattle.spelling.proofs.Taking.{takes_both, may}
 use Rattle.p4_declarations.proofs.Emitting.{same_parts}
+use Rattle.std.proofs.Common.{arith, codes, refl}
+use Rattle.spelling.proofs.Balance.{stays_both, stays_sign}
+use Rattle.spelling.proofs.Bounds.{deep_answers, even, if_deep, stop_opens}
+use Rattle.p4_declarations.proofs.FlatWithin.{part_stays}
 use Rattle.p4_declarations.proofs.package.three_parts.Goals as goal
 
 pub returns-clause-taken : goal.returns-clause-taken
@@ -45,3 +49,13 @@ returns-clause-only c = λ more parts rest m.
     let m4 = after_one m3.1 c.in_ok-sign-2.ensures.taken in
     let m5 = c.in_ok-deparser.ensures.only more parts.deparser rest m4 in
     (same_parts _ parts m1.0 m3.0 m5.0, m5.1)
+
+pub returns-in_err-control-clause-deep : goal.returns-in_err-control-clause-deep
+returns-in_err-control-clause-deep c =
+    let front = even c.args.depth (stays_both (part_stays c.args.depth c.in_ok-parser.parser) (stays_sign (codes ",") refl refl)) (may (takes_both c.in_ok-parser.ensures.taken c.in_ok-sign.ensures.taken)) in
+    deep_answers _ _ c.from_residual-in_err-control.result c.from_residual-in_err-control.ensures.1 (if_deep c.in_err-control.field-0.0 (λ s. stop_opens c.args.depth 0 c.args.depth (omega arith) front s) c.in_err-control.ensures.deep)
+
+pub returns-in_err-deparser-clause-deep : goal.returns-in_err-deparser-clause-deep
+returns-in_err-deparser-clause-deep c =
+    let front = even c.args.depth (stays_both (part_stays c.args.depth c.in_ok-parser.parser) (stays_both (stays_sign (codes ",") refl refl) (stays_both (part_stays c.args.depth c.in_ok-control.control) (stays_sign (codes ",") refl refl)))) (may (takes_both c.in_ok-parser.ensures.taken (takes_both c.in_ok-sign.ensures.taken (takes_both c.in_ok-control.ensures.taken c.in_ok-sign-2.ensures.taken)))) in
+    deep_answers _ _ c.from_residual-in_err-deparser.result c.from_residual-in_err-deparser.ensures.1 (if_deep c.in_err-deparser.field-0.0 (λ s. stop_opens c.args.depth 0 c.args.depth (omega arith) front s) c.in_err-deparser.ensures.deep)

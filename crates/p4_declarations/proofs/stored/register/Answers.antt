@@ -1,8 +1,13 @@
 use Rattle.spelling.proofs.Limits.{want_or, or_answers}
 use Rattle.spelling.proofs.Only.{after, after_one, alone, named_same, same_end, wants, wants_name, wants_one}
-use Rattle.spelling.proofs.Taking.{may_takes, takes_both}
+use Rattle.spelling.proofs.Taking.{may_takes, takes_both, may}
 use Rattle.p4_declarations.proofs.FieldSpelling.{name_ends_index}
 use Rattle.p4_declarations.proofs.SameDecls.{same_register}
+use Rattle.std.proofs.Common.{arith, codes, refl}
+use Rattle.spelling.proofs.Balance.{stays_both, stays_named, stays_sign, stays_round}
+use Rattle.spelling.proofs.Bounds.{deep_answers, even, if_deep, stop_opens, line_opens, stop_as}
+use Rattle.p4_expr.proofs.PartsWithin.{bits_stays, amount_stays}
+use Rattle.p4_expr.specs.Parts.{SpellsAmount}
 use Rattle.p4_declarations.proofs.stored.register.Goals as goal
 
 pub returns-clause-taken : goal.returns-clause-taken
@@ -78,3 +83,13 @@ returns-clause-only c = λ more name width cells size rest m.
     let m6 = after m5.1 (λ b f s. c.in_ok-size.ensures.only more size b f (name_ends_index s)) in
     let m7 = after_one m6.1 c.in_ok-name.ensures.taken in
     (same_register (named_same m6.1 c.in_ok-name.ensures.taken) m3.0 m5.0 m6.0, same_end m7 c.in_ok-sign-3.ensures.taken)
+
+pub returns-in_err-cells-clause-deep : goal.returns-in_err-cells-clause-deep
+returns-in_err-cells-clause-deep c =
+    let front = even c.args.depth (stays_both (stays_named (codes "Register")) (stays_both (stays_sign (codes "<") refl refl) (stays_both (bits_stays c.in_ok-width.width) (stays_sign (codes ">") refl refl)))) (may (takes_both c.in_ok-fixed_name.ensures.taken (takes_both c.in_ok-sign.ensures.taken (takes_both c.in_ok-width.ensures.taken c.in_ok-sign-2.ensures.taken)))) in
+    deep_answers _ _ c.from_residual-in_err-cells.result c.from_residual-in_err-cells.ensures.1 (if_deep c.in_err-cells.field-0.0 (λ s. stop_opens c.args.depth 0 c.args.depth (omega arith) front s) c.in_err-cells.ensures.deep)
+
+pub returns-in_err-size-clause-deep : goal.returns-in_err-size-clause-deep
+returns-in_err-size-clause-deep c =
+    let front = even c.args.depth (stays_both (stays_named (codes "Register")) (stays_both (stays_sign (codes "<") refl refl) (stays_both (bits_stays c.in_ok-width.width) (stays_both (stays_sign (codes ">") refl refl) (stays_round c.args.depth (λ _. SpellsAmount c.in_ok-cells.cells) (λ _. amount_stays c.in_ok-cells.cells)))))) (may (takes_both c.in_ok-fixed_name.ensures.taken (takes_both c.in_ok-sign.ensures.taken (takes_both c.in_ok-width.ensures.taken (takes_both c.in_ok-sign-2.ensures.taken c.in_ok-cells.ensures.taken))))) in
+    deep_answers _ _ c.from_residual-in_err-size.result c.from_residual-in_err-size.ensures.1 (if_deep c.in_err-size.field-0.0 (λ s. stop_opens c.args.depth 0 c.args.depth (omega arith) front (stop_as (line_opens c.args.depth) s)) c.in_err-size.ensures.deep)

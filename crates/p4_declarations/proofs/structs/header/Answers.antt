@@ -1,7 +1,10 @@
 use Rattle.spelling.proofs.Limits.{want_or, or_answers}
 use Rattle.spelling.proofs.Only.{after_one, named_same, wants_name, wants_one}
-use Rattle.spelling.proofs.Taking.{takes_both}
+use Rattle.spelling.proofs.Taking.{takes_both, may}
 use Rattle.p4_declarations.proofs.SameDecls.{same_header}
+use Rattle.std.proofs.Common.{arith, codes}
+use Rattle.spelling.proofs.Balance.{stays_both, stays_named, stays_reserved}
+use Rattle.spelling.proofs.Bounds.{deep_answers, even, if_deep, stop_opens}
 use Rattle.p4_declarations.proofs.structs.header.Goals as goal
 
 pub returns-clause-taken : goal.returns-clause-taken
@@ -28,3 +31,8 @@ returns-clause-only c = λ more name fields rest m.
     let m2 = after_one m1 c.in_ok-name.ensures.taken in
     let m3 = c.in_ok-fields.ensures.only more fields rest m2 in
     (same_header (named_same m1 c.in_ok-name.ensures.taken) m3.0, m3.1)
+
+pub returns-in_err-fields-clause-deep : goal.returns-in_err-fields-clause-deep
+returns-in_err-fields-clause-deep c =
+    let front = even c.args.depth (stays_both (stays_reserved (codes "header")) (stays_named c.in_ok-name.name)) (may (takes_both c.in_ok-reserved.ensures.taken c.in_ok-name.ensures.taken)) in
+    deep_answers _ _ c.from_residual-in_err-fields.result c.from_residual-in_err-fields.ensures.1 (if_deep c.in_err-fields.field-0.0 (λ s. stop_opens c.args.depth 0 c.args.depth (omega arith) front s) c.in_err-fields.ensures.deep)

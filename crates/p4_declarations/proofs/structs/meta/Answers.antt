@@ -1,8 +1,10 @@
-use Rattle.std.proofs.Common.{ap}
+use Rattle.std.proofs.Common.{ap, arith, codes}
 use Rattle.elastic_ast.specs.Tree.{PlainDecl}
 use Rattle.spelling.proofs.Limits.{want_or, or_answers}
 use Rattle.spelling.proofs.Only.{after_one, wants_one}
-use Rattle.spelling.proofs.Taking.{takes_both}
+use Rattle.spelling.proofs.Taking.{takes_both, may}
+use Rattle.spelling.proofs.Balance.{stays_both, stays_named, stays_reserved}
+use Rattle.spelling.proofs.Bounds.{deep_answers, even, if_deep, stop_opens}
 use Rattle.p4_declarations.proofs.structs.meta.Goals as goal
 
 pub returns-clause-taken : goal.returns-clause-taken
@@ -29,3 +31,8 @@ returns-clause-only c = λ more fields rest m.
     let m2 = after_one m1 c.in_ok-fixed_name.ensures.taken in
     let m3 = c.in_ok-fields.ensures.only more fields rest m2 in
     (ap PlainDecl.Meta m3.0, m3.1)
+
+pub returns-in_err-fields-clause-deep : goal.returns-in_err-fields-clause-deep
+returns-in_err-fields-clause-deep c =
+    let front = even c.args.depth (stays_both (stays_reserved (codes "struct")) (stays_named (codes "meta_t"))) (may (takes_both c.in_ok-reserved.ensures.taken c.in_ok-fixed_name.ensures.taken)) in
+    deep_answers _ _ c.from_residual-in_err-fields.result c.from_residual-in_err-fields.ensures.1 (if_deep c.in_err-fields.field-0.0 (λ s. stop_opens c.args.depth 0 c.args.depth (omega arith) front s) c.in_err-fields.ensures.deep)

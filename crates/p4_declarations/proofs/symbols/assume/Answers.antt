@@ -1,8 +1,10 @@
-use Rattle.std.proofs.Common.{ap}
+use Rattle.std.proofs.Common.{ap, arith, codes}
 use Rattle.elastic_ast.specs.Tree.{PlainDecl}
 use Rattle.spelling.proofs.Limits.{want_or, or_answers}
 use Rattle.spelling.proofs.Only.{after, after_one, alone, same_end, wants, wants_one}
-use Rattle.spelling.proofs.Taking.{takes_both}
+use Rattle.spelling.proofs.Taking.{takes_both, may}
+use Rattle.spelling.proofs.Balance.{stays_named}
+use Rattle.spelling.proofs.Bounds.{deep_answers, even, if_deep, stop_opens}
 use Rattle.p4_declarations.proofs.symbols.assume.Goals as goal
 
 pub returns-clause-taken : goal.returns-clause-taken
@@ -28,3 +30,8 @@ returns-clause-only c = λ more comps rest m.
     let m1 = after_one m c.in_ok-fixed_name.ensures.taken in
     let m2 = after m1 (λ b f s. c.in_ok-comps.ensures.only more comps b f) in
     (ap PlainDecl.Assume m2.0, same_end m2.1 c.in_ok-sign.ensures.taken)
+
+pub returns-in_err-comps-clause-deep : goal.returns-in_err-comps-clause-deep
+returns-in_err-comps-clause-deep c =
+    let front = even c.args.depth (stays_named (codes "assume")) (may c.in_ok-fixed_name.ensures.taken) in
+    deep_answers _ _ c.from_residual-in_err-comps.result c.from_residual-in_err-comps.ensures.1 (if_deep c.in_err-comps.field-0.0 (λ s. stop_opens c.args.depth 0 c.args.depth (omega arith) front s) c.in_err-comps.ensures.deep)

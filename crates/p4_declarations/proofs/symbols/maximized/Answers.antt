@@ -1,10 +1,11 @@
-use Rattle.std.proofs.Common.{refl, codes}
+use Rattle.std.proofs.Common.{refl, codes, arith}
 use Rattle.spelling.specs.Grammar.{FirstThenEach}
 use Rattle.spelling.proofs.Limits.{want_or, or_as, or_answers, opens_or, past_opening}
 use Rattle.spelling.proofs.Only.{after, alone, begins, ends_sign, same_end, wants, wants_one}
 use Rattle.spelling.proofs.Taking.{may, takes_bracketed}
 use Rattle.p4_declarations.specs.Flat.{SpellsFirstGain, SpellsLaterGain}
 use Rattle.p4_declarations.specs.GoesOn.{sum_signs}
+use Rattle.spelling.proofs.Bounds.{deep_answers, if_deep, one_open, stop_opens}
 use Rattle.p4_declarations.proofs.symbols.maximized.Goals as goal
 
 pub returns-clause-taken : goal.returns-clause-taken
@@ -30,3 +31,8 @@ returns-clause-only c = λ more terms rest m.
     let i = past_opening (codes "(") (codes ")") more c.args.depth c.in_ok-inner.inner (λ inner. FirstThenEach (SpellsFirstGain inner) (SpellsLaterGain inner) terms) c.in_ok-inner.ensures.depth c.in_ok-inner.ensures.taken m in
     let m2 = after i.parts (λ b f s. c.in_ok-terms.ensures.only i.within terms b f (ends_sign sum_signs (codes ")") b refl (begins s))) in
     (m2.0, same_end m2.1 c.in_ok-sign.ensures.taken)
+
+pub returns-in_err-terms-clause-deep : goal.returns-in_err-terms-clause-deep
+returns-in_err-terms-clause-deep c =
+    let opened = one_open (codes "(") refl (may c.in_ok-inner.ensures.taken) in
+    deep_answers _ _ c.from_residual-in_err-terms.result c.from_residual-in_err-terms.ensures.1 (if_deep c.in_err-terms.field-0.0 (λ s. stop_opens c.args.depth 1 c.in_ok-inner.inner (omega (arith, c.in_ok-inner.ensures.depth)) opened s) c.in_err-terms.ensures.deep)

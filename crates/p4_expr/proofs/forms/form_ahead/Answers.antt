@@ -6,7 +6,7 @@ use Rattle.p4_expr.proofs.FormWords.{name_no_sign, number_no_sign, number_no_wor
 use Rattle.p4_expr.proofs.forms.form_ahead.Goals as goal
 
 pub returns-then-is_at_any_name-clause-own : goal.returns-then-is_at_any_name-clause-own
-returns-then-is_at_any_name-clause-own c = λ depth e rest m ends. c.name_form.ensures depth e rest m ends (c.if-is_at_any_name.ensures.0 refl)
+returns-then-is_at_any_name-clause-own c = λ depth e rest m ends. c.name_form.ensures.own depth e rest m ends (c.if-is_at_any_name.ensures.0 refl)
 
 pub returns-then-is_at_any_name-clause-bracketed : goal.returns-then-is_at_any_name-clause-bracketed
 returns-then-is_at_any_name-clause-bracketed c = λ depth e rest m.

@@ -1,7 +1,6 @@
-use Rattle.std.proofs.Common.{ap, arith, refl, sym, ◌∙◌, ◌≡◌}
+use Rattle.std.proofs.Common.{ap, arith, refl, sym, ◌∙◌}
 use Rattle.elastic_ast.specs.declared.statements.Amount.TheVariants as amount
 use Rattle.spelling.proofs.Only.{alone, not_there, same_end, same_name, same_number, want_answers, wants_name, wants_number}
-use Rattle.spelling.proofs.Taking.{takes_where}
 use Rattle.p4_expr.proofs.PartSpelling.{amount_name, amount_number}
 use Rattle.p4_expr.proofs.parts.amount.Goals as goal
 

@@ -1,10 +1,12 @@
-use Rattle.std.proofs.Common.{◌-◌, ap, arith, subst, sym, ◌∙◌}
+use Rattle.std.proofs.Common.{◌-◌, ap, arith, inr, subst, sym, ◌∙◌}
 use Rattle.elastic_ast.specs.SeenLaws.{seen_expr-valid}
 use Rattle.elastic_ast.specs.Tree.{PlainExpr}
 use Rattle.spelling.specs.Reading.{Takes, ahead}
 use Rattle.spelling.proofs.Limits.{or_answers, or_as}
 use Rattle.p4_expr.specs.Bases.{SpellsOwn}
 use Rattle.p4_expr.proofs.Counting.{counted, test_counted}
+use Rattle.spelling.proofs.Bounds.{holds_deep}
+use Rattle.p4_expr.proofs.PassingLaws.{first_passed}
 use Rattle.p4_expr.proofs.reading.test_of.Goals as goal
 
 pub returns-clause-taken : goal.returns-clause-taken
@@ -23,3 +25,6 @@ pub returns-clause-only : goal.returns-clause-only
 returns-clause-only c = λ more header rest m.
     let r = c.in_ok-header.ensures.only more header rest m in
     (seen_expr-valid c.in_ok-header.header ∙ ap PlainExpr.IsValid r.0, r.1)
+
+pub returns-then-left-eq0-clause-deep : goal.returns-then-left-eq0-clause-deep
+returns-then-left-eq0-clause-deep c = λ at. holds_deep c.too_deep.result (first_passed c.args.left c.args.depth _ c.if-left-eq0.true (inr (inr (inr at))))

@@ -1,8 +1,12 @@
-use Rattle.std.proofs.Common.{codes}
+use Rattle.std.proofs.Common.{codes, arith, inl}
 use Rattle.spelling.proofs.Limits.{or_answers, or_as, want_or}
 use Rattle.spelling.proofs.Only.{after, after_one, begins_bracketed, named_same, split, wants, wants_name, wants_one}
-use Rattle.spelling.proofs.Taking.{may_takes, takes_both}
+use Rattle.spelling.proofs.Taking.{may_takes, takes_both, may}
+use Rattle.spelling.proofs.Bounds.{deep_answers, even, if_deep, opens_then, stop_opens}
+use Rattle.p4_expr.proofs.Bound.{bound_opens}
 use Rattle.p4_parser.proofs.ActionSpelling.{same_action}
+use Rattle.p4_parser.proofs.DeclarationsWithin.{action_index_stays, params_stay}
+use Rattle.p4_parser.proofs.Reaching.{headed}
 use Rattle.p4_parser.proofs.actions.action.Goals as goal
 
 pub returns-clause-taken : goal.returns-clause-taken
@@ -46,3 +50,21 @@ returns-clause-only c = λ more action rest m.
     let m4 = after m3.1 (λ b f s. c.in_ok-params.ensures.only more action.params b f) in
     let m5 = c.in_ok-body.ensures.only more action.body rest m4.1 in
     (same_action _ action (named_same m1 c.in_ok-name.ensures.taken) m3.0 m4.0 m5.0, m5.1)
+
+pub returns-in_err-index-clause-deep : goal.returns-in_err-index-clause-deep
+returns-in_err-index-clause-deep c =
+    let named = headed (codes "action") c.in_ok-name.name c.in_ok-reserved.ensures.taken c.in_ok-name.ensures.taken in
+    deep_answers _ _ c.from_residual-in_err-index.result c.from_residual-in_err-index.ensures.1 (if_deep c.in_err-index.field-0.0 (λ s. inl (stop_opens c.args.depth 0 c.args.depth (omega arith) named s)) c.in_err-index.ensures.deep)
+
+pub returns-in_err-params-clause-deep : goal.returns-in_err-params-clause-deep
+returns-in_err-params-clause-deep c =
+    let named = headed (codes "action") c.in_ok-name.name c.in_ok-reserved.ensures.taken c.in_ok-name.ensures.taken in
+    let indexed = opens_then 0 0 named (even c.args.depth (action_index_stays c.args.depth c.in_ok-index.index) c.in_ok-index.ensures.taken) in
+    deep_answers _ _ c.from_residual-in_err-params.result c.from_residual-in_err-params.ensures.1 (if_deep c.in_err-params.field-0.0 (λ s. inl (stop_opens c.args.depth 0 c.args.depth (omega arith) indexed s)) c.in_err-params.ensures.deep)
+
+pub returns-in_err-body-clause-deep : goal.returns-in_err-body-clause-deep
+returns-in_err-body-clause-deep c =
+    let named = headed (codes "action") c.in_ok-name.name c.in_ok-reserved.ensures.taken c.in_ok-name.ensures.taken in
+    let indexed = opens_then 0 0 named (even c.args.depth (action_index_stays c.args.depth c.in_ok-index.index) c.in_ok-index.ensures.taken) in
+    let front = opens_then 0 0 indexed (even c.args.depth (params_stay c.args.depth c.in_ok-params.params) (may c.in_ok-params.ensures.taken)) in
+    deep_answers _ _ c.from_residual-in_err-body.result c.from_residual-in_err-body.ensures.1 (if_deep c.in_err-body.field-0.0 (λ p. bound_opens c.args.depth 0 c.args.depth 1 1 (omega arith) (omega arith) front p) c.in_err-body.ensures.deep)

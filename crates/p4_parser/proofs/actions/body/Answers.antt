@@ -1,8 +1,10 @@
-use Rattle.std.proofs.Common.{codes}
+use Rattle.std.proofs.Common.{codes, arith, refl}
 use Rattle.elastic_ast.specs.Seen.{seen_stmts}
 use Rattle.spelling.proofs.Limits.{opens_or, or_answers, or_as, past_opening, want_or}
 use Rattle.spelling.proofs.Only.{after, alone, begins, same_end, wants, wants_one}
-use Rattle.spelling.proofs.Taking.{takes_bracketed}
+use Rattle.spelling.proofs.Taking.{takes_bracketed, may}
+use Rattle.spelling.proofs.Bounds.{deep_answers, if_deep, one_open}
+use Rattle.p4_expr.proofs.Bound.{bound_opens}
 use Rattle.p4_statements.specs.Statements.{SpellsPlains}
 use Rattle.p4_parser.proofs.actions.body.Goals as goal
 
@@ -29,3 +31,8 @@ returns-clause-only c = λ more stmts rest m.
     let i = past_opening (codes "{") (codes "}") more c.args.depth c.in_ok-inner.inner (λ inner. SpellsPlains inner stmts) c.in_ok-inner.ensures.depth c.in_ok-inner.ensures.taken m in
     let m2 = after i.parts (λ b f s. c.in_ok-stmts.ensures.only i.within stmts b f (begins s)) in
     (m2.0, same_end m2.1 c.in_ok-sign.ensures.taken)
+
+pub returns-in_err-stmts-clause-deep : goal.returns-in_err-stmts-clause-deep
+returns-in_err-stmts-clause-deep c =
+    let front = one_open (codes "{") refl (may c.in_ok-inner.ensures.taken) in
+    deep_answers _ _ c.from_residual-in_err-stmts.result c.from_residual-in_err-stmts.ensures.1 (if_deep c.in_err-stmts.field-0.0 (λ p. bound_opens c.args.depth 1 c.in_ok-inner.inner 0 1 (omega (arith, c.in_ok-inner.ensures.depth)) (omega arith) front p) c.in_err-stmts.ensures.deep)

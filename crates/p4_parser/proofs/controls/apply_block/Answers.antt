@@ -1,9 +1,13 @@
-use Rattle.std.proofs.Common.{codes}
+use Rattle.std.proofs.Common.{codes, ap, arith, refl}
 use Rattle.elastic_ast.specs.Seen.{seen_stmts}
 use Rattle.spelling.proofs.Limits.{opens_or, or_answers, or_as, past_opening, want_or}
 use Rattle.spelling.proofs.Only.{after, after_one, alone, begins, same_end, wants, wants_one}
-use Rattle.spelling.proofs.Taking.{takes_both, takes_bracketed}
+use Rattle.spelling.proofs.Taking.{takes_both, takes_bracketed, may}
+use Rattle.spelling.specs.Reading.{ahead}
+use Rattle.spelling.proofs.Bounds.{deep_answers, even, if_deep, none_open, one_open, opens_then, stop_open, stop_opens}
+use Rattle.spelling.proofs.Balance.{stays_named}
 use Rattle.p4_statements.specs.Statements.{SpellsStmts}
+use Rattle.p4_parser.proofs.Reaching.{reaches_stop, reaches_within}
 use Rattle.p4_parser.proofs.controls.apply_block.Goals as goal
 
 pub returns-clause-taken : goal.returns-clause-taken
@@ -37,3 +41,14 @@ returns-clause-only c = λ more stmts rest m.
     let i = past_opening (codes "{") (codes "}") more c.args.depth c.in_ok-inner.inner (λ inner. SpellsStmts inner stmts) c.in_ok-inner.ensures.depth c.in_ok-inner.ensures.taken m1 in
     let m2 = after i.parts (λ b f s. c.in_ok-stmts.ensures.only i.within stmts b f (begins s)) in
     (m2.0, same_end m2.1 c.in_ok-sign.ensures.taken)
+
+pub returns-in_err-inner-clause-deep : goal.returns-in_err-inner-clause-deep
+returns-in_err-inner-clause-deep c =
+    let named = even c.args.depth (stays_named (codes "apply")) (may c.in_ok-fixed_name.ensures.taken) in
+    deep_answers _ _ c.from_residual-in_err-inner.result c.from_residual-in_err-inner.ensures.1 (if_deep c.in_err-inner.field-0.0 (λ s. reaches_stop (stop_opens c.args.depth 0 c.args.depth (omega arith) named s)) (stop_open c.args.depth (codes "{") _ c.in_err-inner.field-0.0 refl none_open (ap ahead c.in_err-inner.ensures.left) c.in_err-inner.ensures.refused))
+
+pub returns-in_err-stmts-clause-deep : goal.returns-in_err-stmts-clause-deep
+returns-in_err-stmts-clause-deep c =
+    let named = even c.args.depth (stays_named (codes "apply")) (may c.in_ok-fixed_name.ensures.taken) in
+    let front = opens_then 0 1 named (one_open (codes "{") refl (may c.in_ok-inner.ensures.taken)) in
+    deep_answers _ _ c.from_residual-in_err-stmts.result c.from_residual-in_err-stmts.ensures.1 (if_deep c.in_err-stmts.field-0.0 (λ p. reaches_within c.args.depth 1 c.in_ok-inner.inner 1 (omega (arith, c.in_ok-inner.ensures.depth)) (omega arith) front p) c.in_err-stmts.ensures.deep)

@@ -1,7 +1,13 @@
+use Rattle.std.proofs.Common.{arith, codes}
 use Rattle.spelling.proofs.Limits.{or_answers, or_as, want_or}
 use Rattle.spelling.proofs.Only.{after, after_one, named_same, wants, wants_name, wants_one}
-use Rattle.spelling.proofs.Taking.{takes_both}
+use Rattle.spelling.proofs.Taking.{takes_both, may}
+use Rattle.spelling.proofs.Bounds.{deep_answers, even, if_deep, opens_then, stop_opens}
+use Rattle.spelling.proofs.Balance.{stays_round}
 use Rattle.p4_parser.proofs.ControlSpelling.{same_control}
+use Rattle.p4_parser.specs.Declarations.{SpellsControlParameters}
+use Rattle.p4_parser.proofs.DeclarationsWithin.{control_parameters_stay}
+use Rattle.p4_parser.proofs.Reaching.{headed, reaches_past, reaches_stop}
 use Rattle.p4_parser.proofs.controls.control.Goals as goal
 
 pub returns-clause-taken : goal.returns-clause-taken
@@ -39,3 +45,14 @@ returns-clause-only c = λ more name locals body rest m.
     let m3 = after m2 (λ b f s. c.in_ok-parameters.ensures.only more b f) in
     let m4 = c.in_ok-locals.ensures.only more locals body rest m3.1 in
     (same_control (named_same m1 c.in_ok-name.ensures.taken) m4.0, m4.1)
+
+pub returns-in_err-parameters-clause-deep : goal.returns-in_err-parameters-clause-deep
+returns-in_err-parameters-clause-deep c =
+    let named = headed (codes "control") c.in_ok-name.name c.in_ok-reserved.ensures.taken c.in_ok-name.ensures.taken in
+    deep_answers _ _ c.from_residual-in_err-parameters.result c.from_residual-in_err-parameters.ensures.1 (if_deep c.in_err-parameters.field-0.0 (λ s. reaches_stop (stop_opens c.args.depth 0 c.args.depth (omega arith) named s)) c.in_err-parameters.ensures.deep)
+
+pub returns-in_err-locals-clause-deep : goal.returns-in_err-locals-clause-deep
+returns-in_err-locals-clause-deep c =
+    let named = headed (codes "control") c.in_ok-name.name c.in_ok-reserved.ensures.taken c.in_ok-name.ensures.taken in
+    let front = opens_then 0 0 named (even c.args.depth (stays_round c.args.depth (λ _. SpellsControlParameters) (λ _. control_parameters_stay)) (may c.in_ok-parameters.ensures.taken)) in
+    deep_answers _ _ c.from_residual-in_err-locals.result c.from_residual-in_err-locals.ensures.1 (if_deep c.in_err-locals.field-0.0 (λ p. reaches_past c.args.depth 0 c.args.depth 2 2 (omega arith) (omega arith) front p) c.in_err-locals.ensures.deep)

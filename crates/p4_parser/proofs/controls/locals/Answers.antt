@@ -1,4 +1,4 @@
-use Rattle.std.proofs.Common.{◌≡◌, [], ◌∷◌, ◌++◌, ap, codes, map, refl, subst, ◌∙◌, ◌⊎◌}
+use Rattle.std.proofs.Common.{◌≡◌, [], ◌∷◌, ◌++◌, ap, codes, map, refl, subst, ◌∙◌, ◌⊎◌, arith}
 use Rattle.std.proofs.lemmas.List.{map-append}
 use Rattle.elastic_ast.specs.Seen.{seen_local}
 use Rattle.spelling.specs.Grammar.{Begins, IsReserved}
@@ -6,10 +6,14 @@ use Rattle.spelling.proofs.Limits.{or_answers, or_as}
 use Rattle.spelling.proofs.Only.{after, not_there, wants}
 use Rattle.spelling.proofs.Taking.{each_more, may}
 use Rattle.spelling.proofs.Whole.{left_more, none_left, one_left}
+use Rattle.spelling.proofs.Bounds.{deep_answers, even, if_deep}
+use Rattle.spelling.proofs.Balance.{stays_each}
 use Rattle.p4_expr.specs.Expressions.{HasFewOperators}
+use Rattle.p4_expr.proofs.Bound.{bound_opens}
 use Rattle.p4_parser.specs.Declarations.{SpellsLocal}
 use Rattle.p4_parser.specs.ExpressionsIn.{expressions_of_local}
 use Rattle.p4_parser.proofs.ControlSpelling.{all_of_next, all_pushed, apply_no_local, local_first}
+use Rattle.p4_parser.proofs.DeclarationsWithin.{local_stays}
 use Rattle.p4_parser.proofs.controls.locals.Goals as goal
 
 pub locals-preserved : goal.locals-preserved
@@ -32,3 +36,8 @@ returns-in_err-local-clause-only c = λ more all rest m named.
 pub returns-clause-only : goal.returns-clause-only
 returns-clause-only c = λ more all rest m named.
     none_left (c.locals.invariant.only more all rest m named) (λ one later f. not_there c.locals-test.ensures.1 (local_first more one f))
+
+pub returns-in_err-local-clause-deep : goal.returns-in_err-local-clause-deep
+returns-in_err-local-clause-deep c =
+    let front = even c.args.depth (stays_each (SpellsLocal c.args.depth) (local_stays c.args.depth) (map seen_local c.locals.locals)) c.locals.invariant.taken in
+    deep_answers _ _ c.from_residual.result c.from_residual.ensures.1 (if_deep c.in_err-local.field-0.0 (λ p. bound_opens c.args.depth 0 c.args.depth 1 1 (omega arith) (omega arith) front p) c.in_err-local.ensures.deep)

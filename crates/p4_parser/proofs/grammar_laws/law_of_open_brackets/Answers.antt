@@ -1,5 +1,5 @@
 use Rattle.spelling.proofs.Balance.{most_within}
-use Rattle.p4_parser.proofs.StatementsWithin.{stmts_within}
+use Rattle.p4_statements.proofs.StatementsWithin.{stmts_within}
 use Rattle.p4_parser.proofs.DeclarationsWithin.{program_stays}
 use Rattle.p4_parser.proofs.grammar_laws.law_of_open_brackets.Goals as goal
 

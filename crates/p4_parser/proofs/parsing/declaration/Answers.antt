@@ -1,13 +1,15 @@
-use Rattle.std.proofs.Common.{◌≤◌, codes, refl}
+use Rattle.std.proofs.Common.{◌≤◌, codes, refl, arith}
 use Rattle.elastic_ast.specs.Seen.{seen_decl}
 use Rattle.spelling.specs.Reading.{ahead, IsReading, Takes}
 use Rattle.spelling.proofs.Limits.{reading_as}
 use Rattle.spelling.proofs.Only.{not_there, other_text}
 use Rattle.spelling.proofs.Taking.{takes_as}
+use Rattle.spelling.proofs.Bounds.{deep_as}
 use Rattle.p4_declarations.specs.Flat.{SpellsFlat}
 use Rattle.p4_statements.proofs.Ahead.{if_ok_as}
 use Rattle.p4_parser.specs.Reading.{DeclHasFew}
 use Rattle.p4_parser.proofs.DeclForms.{by_form, flat_declaration}
+use Rattle.p4_parser.proofs.Reaching.{reaches_all, reaches_stop}
 use Rattle.p4_parser.proofs.parsing.declaration.Goals as goal
 
 pub returns-then-is_at_reserved-clause-only : goal.returns-then-is_at_reserved-clause-only
@@ -39,3 +41,9 @@ returns-clause-only c = λ more decl rest m.
     (λ name states f first. absurd (not_there c.if-is_at_reserved.ensures.1 first))
     (λ name locals body f first inout. absurd (not_there c.if-is_at_control.ensures.1 (first, inout)))
     (λ decl f words. reading_as _ _ _ _ _ _ _ (λ few. few.0) (c.flat.ensures.only more decl rest f))
+
+pub returns-then-is_at_reserved-clause-deep : goal.returns-then-is_at_reserved-clause-deep
+returns-then-is_at_reserved-clause-deep c = deep_as c.parser.result (λ p. reaches_all (omega arith) p) c.parser.ensures.deep
+
+pub returns-clause-deep : goal.returns-clause-deep
+returns-clause-deep c = deep_as c.flat.result (λ s. reaches_stop s) c.flat.ensures.deep

@@ -1,7 +1,6 @@
 use Rattle.std.proofs.Common.{ℕ, List, [], length}
 use Rattle.elastic_ast.specs.Tree.{PlainDecl}
 use Rattle.elastic_ast.specs.Seen.{seen_decls}
-use Rattle.spelling.specs.Words.{words}
 use Rattle.spelling.specs.Reading.{ahead, MayTake}
 use Rattle.spelling.proofs.Whole.{Left}
 use Rattle.p4_parser.specs.Declarations.{SpellsDeclaration, SpellsProgram}
@@ -10,9 +9,9 @@ use Rattle.p4_parser.proofs.parsing.declarations.Given as goal
 
 abbrev pub invariant-decls : goal.invariant-decls
 invariant-decls l = record {
-  spelled : MayTake (SpellsProgram l.most_depth (seen_decls l.decls)) (words l.fn.text l.fn.tokens) (ahead l.reader);
+  spelled : MayTake (SpellsProgram l.depth (seen_decls l.decls)) (ahead l.fn.reader) (ahead l.reader);
   few : ProgramHasFew (seen_decls l.decls);
-  only : (more : ℕ) (all : List PlainDecl) → SpellsProgram more all (words l.fn.text l.fn.tokens) → Left (SpellsDeclaration more) (seen_decls l.decls) all (ahead l.reader) [];
+  only : (more : ℕ) (all : List PlainDecl) → SpellsProgram more all (ahead l.fn.reader) → Left (SpellsDeclaration more) (seen_decls l.decls) all (ahead l.reader) [];
 }
 
 abbrev pub decreases-decls : goal.decreases-decls

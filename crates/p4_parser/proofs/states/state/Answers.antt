@@ -1,9 +1,16 @@
-use Rattle.std.proofs.Common.{codes}
+use Rattle.std.proofs.Common.{codes, ap, arith, inl, refl}
 use Rattle.elastic_ast.specs.Seen.{seen_state}
 use Rattle.spelling.proofs.Limits.{want_or, or_as, or_answers, opens_or, past_opening}
 use Rattle.spelling.proofs.Only.{after, after_one, alone, begins_first, named_same, regroup, same_end, wants, wants_name, wants_one}
-use Rattle.spelling.proofs.Taking.{may, may_takes, takes_both, takes_bracketed}
+use Rattle.spelling.proofs.Taking.{may, may_takes, takes_both, takes_bracketed, may_both}
+use Rattle.spelling.specs.Reading.{ahead}
+use Rattle.spelling.proofs.Bounds.{deep_answers, even, if_deep, none_open, one_open, opens_then, stop_open, stop_opens}
+use Rattle.spelling.proofs.Balance.{stays_both, stays_each, stays_reserved}
+use Rattle.p4_expr.proofs.Bound.{bound_opens}
 use Rattle.p4_parser.proofs.StateSpelling.{StateBody, same_state}
+use Rattle.p4_parser.specs.Declarations.{SpellsExtract}
+use Rattle.p4_parser.proofs.DeclarationsWithin.{extract_stays}
+use Rattle.p4_parser.proofs.Reaching.{headed}
 use Rattle.p4_parser.proofs.states.state.Goals as goal
 
 pub returns-clause-taken : goal.returns-clause-taken
@@ -69,3 +76,23 @@ returns-clause-only c = λ more state rest m.
     let m4 = after_one (regroup m3.1) c.in_ok-reserved-2.ensures.taken in
     let m5 = after m4 (λ b f s. c.in_ok-next.ensures.only i.within state.next b f) in
     (same_state _ state (named_same m1 c.in_ok-name.ensures.taken) m3.0 m5.0, same_end m5.1 c.in_ok-sign.ensures.taken)
+
+pub returns-in_err-inner-clause-deep : goal.returns-in_err-inner-clause-deep
+returns-in_err-inner-clause-deep c =
+    let named = headed (codes "state") c.in_ok-name.name c.in_ok-reserved.ensures.taken c.in_ok-name.ensures.taken in
+    deep_answers _ _ c.from_residual-in_err-inner.result c.from_residual-in_err-inner.ensures.1 (if_deep c.in_err-inner.field-0.0 (λ s. inl (stop_opens c.args.depth 0 c.args.depth (omega arith) named s)) (stop_open c.args.depth (codes "{") _ c.in_err-inner.field-0.0 refl none_open (ap ahead c.in_err-inner.ensures.left) c.in_err-inner.ensures.refused))
+
+pub returns-in_err-extracts-clause-deep : goal.returns-in_err-extracts-clause-deep
+returns-in_err-extracts-clause-deep c =
+    let named = headed (codes "state") c.in_ok-name.name c.in_ok-reserved.ensures.taken c.in_ok-name.ensures.taken in
+    let opening = opens_then 0 1 named (one_open (codes "{") refl (may c.in_ok-inner.ensures.taken)) in
+    deep_answers _ _ c.from_residual-in_err-extracts.result c.from_residual-in_err-extracts.ensures.1 (if_deep c.in_err-extracts.field-0.0 (λ s. inl (stop_opens c.args.depth 1 c.in_ok-inner.inner (omega (arith, c.in_ok-inner.ensures.depth)) opening s)) c.in_err-extracts.ensures.deep)
+
+pub returns-in_err-next-clause-deep : goal.returns-in_err-next-clause-deep
+returns-in_err-next-clause-deep c =
+    let named = headed (codes "state") c.in_ok-name.name c.in_ok-reserved.ensures.taken c.in_ok-name.ensures.taken in
+    let opening = opens_then 0 1 named (one_open (codes "{") refl (may c.in_ok-inner.ensures.taken)) in
+    let inner = c.in_ok-inner.inner in
+    let stays = stays_both (stays_each (SpellsExtract inner) (extract_stays inner) c.in_ok-extracts.extracts) (stays_reserved (codes "transition")) in
+    let front = opens_then 1 0 opening (even inner stays (may_both c.in_ok-extracts.ensures.taken (may c.in_ok-reserved-2.ensures.taken))) in
+    deep_answers _ _ c.from_residual-in_err-next.result c.from_residual-in_err-next.ensures.1 (if_deep c.in_err-next.field-0.0 (λ p. bound_opens c.args.depth 1 inner 0 1 (omega (arith, c.in_ok-inner.ensures.depth)) (omega arith) front p) c.in_err-next.ensures.deep)

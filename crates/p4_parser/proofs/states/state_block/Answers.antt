@@ -1,8 +1,10 @@
-use Rattle.std.proofs.Common.{codes, map}
+use Rattle.std.proofs.Common.{codes, map, arith, refl}
 use Rattle.elastic_ast.specs.Seen.{seen_state}
 use Rattle.spelling.proofs.Limits.{want_or, or_as, or_answers, opens_or, past_opening}
 use Rattle.spelling.proofs.Only.{after, alone, begins, same_end, wants, wants_one}
-use Rattle.spelling.proofs.Taking.{takes_bracketed}
+use Rattle.spelling.proofs.Taking.{takes_bracketed, may}
+use Rattle.spelling.proofs.Bounds.{deep_answers, if_deep, one_open}
+use Rattle.p4_expr.proofs.Bound.{bound_opens}
 use Rattle.p4_parser.proofs.StateSpelling.{StatesIn}
 use Rattle.p4_parser.proofs.states.state_block.Goals as goal
 
@@ -29,3 +31,8 @@ returns-clause-only c = λ more states rest m.
     let i = past_opening (codes "{") (codes "}") more c.args.depth c.in_ok-inner.inner (StatesIn states) c.in_ok-inner.ensures.depth c.in_ok-inner.ensures.taken m in
     let m1 = after i.parts (λ b f s. c.in_ok-states.ensures.only i.within states b f (begins s)) in
     (m1.0, same_end m1.1 c.in_ok-sign.ensures.taken)
+
+pub returns-in_err-states-clause-deep : goal.returns-in_err-states-clause-deep
+returns-in_err-states-clause-deep c =
+    let front = one_open (codes "{") refl (may c.in_ok-inner.ensures.taken) in
+    deep_answers _ _ c.from_residual-in_err-states.result c.from_residual-in_err-states.ensures.1 (if_deep c.in_err-states.field-0.0 (λ p. bound_opens c.args.depth 1 c.in_ok-inner.inner 1 2 (omega (arith, c.in_ok-inner.ensures.depth)) (omega arith) front p) c.in_err-states.ensures.deep)

@@ -5,6 +5,9 @@ use Rattle.spelling.proofs.Taking.{may, takes_bracketed}
 use Rattle.spelling.proofs.Limits.{inside, opens_or, or_answers, or_as, want_or}
 use Rattle.p4_expr.specs.Expressions.{SpellsExpr}
 use Rattle.p4_expr.specs.GoesOn.{expression_signs}
+use Rattle.spelling.proofs.Bounds.{deep_answers, if_deep}
+use Rattle.p4_expr.proofs.Bound.{expr_bound}
+use Rattle.p4_statements.proofs.Lines.{past_open}
 use Rattle.p4_statements.proofs.brackets.bracketed.Goals as goal
 
 pub returns-clause-taken : goal.returns-clause-taken
@@ -31,3 +34,7 @@ returns-clause-only c = λ more e rest m.
     let i = inside (codes "(") (codes ")") more c.args.depth c.in_ok-inner.inner (λ n. SpellsExpr n e) c.in_ok-inner.ensures.depth m in
     let m1 = after (after_one i.parts c.in_ok-inner.ensures.taken) (λ b f s. c.in_ok-e.ensures.only i.within e b f (ends_sign expression_signs (codes ")") b refl (begins s))) in
     (m1.0, same_end m1.1 c.in_ok-sign.ensures.taken)
+
+pub returns-in_err-e-clause-deep : goal.returns-in_err-e-clause-deep
+returns-in_err-e-clause-deep c =
+    deep_answers _ _ c.from_residual-in_err-e.result c.from_residual-in_err-e.ensures.1 (if_deep c.in_err-e.field-0.0 (λ p. past_open c.args.depth c.in_ok-inner.inner c.in_ok-inner.ensures.depth c.in_ok-inner.ensures.taken (expr_bound p)) c.in_err-e.ensures.deep)

@@ -6,6 +6,12 @@ use Rattle.spelling.proofs.Taking.{may, takes_both, takes_bracketed}
 use Rattle.spelling.proofs.Limits.{inside, opens_or, or_answers, or_as, want_or}
 use Rattle.p4_expr.specs.Expressions.{SpellsExpr}
 use Rattle.p4_expr.specs.GoesOn.{expression_signs}
+use Rattle.spelling.proofs.Bounds.{deep_answers, if_deep, in_both, in_sign}
+use Rattle.spelling.proofs.Balance.{stays_both, stays_sign}
+use Rattle.p4_expr.proofs.Bound.{expr_bound}
+use Rattle.p4_expr.proofs.InLines.{expr_in_line}
+use Rattle.p4_expr.proofs.ExprWithin.{expr_within}
+use Rattle.p4_statements.proofs.Lines.{past, past_open}
 use Rattle.p4_statements.proofs.brackets.two.Goals as goal
 
 pub returns-clause-taken : goal.returns-clause-taken
@@ -54,3 +60,11 @@ returns-clause-only c = λ more one other rest m.
     let m2 = after_one (regroup m1.1) c.in_ok-sign.ensures.taken in
     let m3 = after m2 (λ b f s. c.in_ok-other.ensures.only i.within other b f (ends_sign expression_signs (codes ")") b refl (begins s))) in
     (ap (λ e. (e, seen_expr c.in_ok-other.other)) m1.0 ∙ ap (λ e. (one, e)) m3.0, same_end m3.1 c.in_ok-sign-2.ensures.taken)
+
+pub returns-in_err-one-clause-deep : goal.returns-in_err-one-clause-deep
+returns-in_err-one-clause-deep c =
+    deep_answers _ _ c.from_residual-in_err-one.result c.from_residual-in_err-one.ensures.1 (if_deep c.in_err-one.field-0.0 (λ p. past_open c.args.depth c.in_ok-inner.inner c.in_ok-inner.ensures.depth c.in_ok-inner.ensures.taken (expr_bound p)) c.in_err-one.ensures.deep)
+
+pub returns-in_err-other-clause-deep : goal.returns-in_err-other-clause-deep
+returns-in_err-other-clause-deep c =
+    deep_answers _ _ c.from_residual-in_err-other.result c.from_residual-in_err-other.ensures.1 (if_deep c.in_err-other.field-0.0 (λ p. past_open c.args.depth c.in_ok-inner.inner c.in_ok-inner.ensures.depth c.in_ok-inner.ensures.taken (past c.in_ok-inner.inner (may (takes_both c.in_ok-one.ensures.taken c.in_ok-sign.ensures.taken)) (stays_both expr_within (stays_sign (codes ",") refl refl)) (in_both (expr_in_line c.in_ok-inner.inner (seen_expr c.in_ok-one.one)) (in_sign (codes ",") refl refl refl)) (expr_bound p))) c.in_err-other.ensures.deep)

@@ -1,14 +1,13 @@
-use Rattle.std.proofs.Common.{ap, codes, refl, ◌∙◌}
+use Rattle.std.proofs.Common.{ap, codes, refl, ◌∙◌, []}
 use Rattle.elastic_ast.specs.Seen.{seen_exprs}
-use Rattle.spelling.proofs.Only.{after, after_one, alone, begins, same_end, wants, wants_one}
-use Rattle.spelling.proofs.Taking.{takes_bracketed}
+use Rattle.spelling.proofs.Only.{after, after_one, alone, begins, same_end, wants, wants_one, not_there}
+use Rattle.spelling.proofs.Taking.{takes_bracketed, may_empty}
 use Rattle.spelling.proofs.Limits.{inside, opens_or, or_answers, or_as, want_or}
 use Rattle.p4_expr.specs.Expressions.{SpellsExpr}
-use Rattle.std.proofs.Common.{[]}
 use Rattle.spelling.specs.Grammar.{Commas}
-use Rattle.spelling.proofs.Only.{not_there}
-use Rattle.spelling.proofs.Taking.{may_empty}
 use Rattle.p4_statements.proofs.Arguments.{no_args, some_args, stays, stays_open, take_commas}
+use Rattle.spelling.proofs.Bounds.{deep_answers, if_deep}
+use Rattle.p4_statements.proofs.Lines.{past_open}
 use Rattle.p4_statements.proofs.calls.arguments.Goals as goal
 
 pub returns-in_err-inner-clause-only : goal.returns-in_err-inner-clause-only
@@ -57,3 +56,7 @@ returns-clause-only c = λ more args rest m.
     let m3 = stays (c.if-eat_sign.ensures.left refl) m2 in
     let m4 = after m3 (λ b f s. c.in_ok-args.ensures.only i.within args b f (begins s)) in
     (m4.0, same_end m4.1 c.in_ok-sign.ensures.taken)
+
+pub returns-in_err-args-clause-deep : goal.returns-in_err-args-clause-deep
+returns-in_err-args-clause-deep c =
+    deep_answers _ _ c.from_residual-in_err-args.result c.from_residual-in_err-args.ensures.1 (if_deep c.in_err-args.field-0.0 (λ p. past_open c.args.depth c.in_ok-inner.inner c.in_ok-inner.ensures.depth (stays_open (c.if-eat_sign.ensures.left refl) c.in_ok-inner.ensures.taken) p) c.in_err-args.ensures.deep)

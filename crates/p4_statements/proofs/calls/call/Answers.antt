@@ -1,14 +1,18 @@
-use Rattle.std.proofs.Common.{ap, codes, refl, sym, subst, ◌∙◌}
+use Rattle.std.proofs.Common.{ap, codes, refl, sym, subst, ◌∙◌, inl}
 use Rattle.elastic_ast.specs.Seen.{seen_exprs}
 use Rattle.elastic_ast.specs.SeenLaws.{seen_stmt-call}
 use Rattle.elastic_ast.specs.Tree.{PlainStmt}
 use Rattle.spelling.specs.Reading.{Takes, ahead}
-use Rattle.spelling.proofs.Only.{after, after_one, alone, named_same, same_end, split, wants, wants_one}
-use Rattle.spelling.proofs.Taking.{may_takes, takes_both}
+use Rattle.spelling.proofs.Only.{after, after_one, alone, named_same, same_end, split, wants, wants_one, begins_bracketed}
+use Rattle.spelling.proofs.Taking.{may_takes, takes_both, may, takes_may}
 use Rattle.spelling.proofs.Limits.{or_answers, or_as, want_or}
 use Rattle.p4_expr.proofs.PartSpelling.{ends_index}
 use Rattle.p4_statements.specs.Reading.{HasFew, SpellsSimple}
-use Rattle.spelling.proofs.Only.{begins_bracketed}
+use Rattle.spelling.proofs.Bounds.{deep_answers, if_deep, in_both, in_named}
+use Rattle.spelling.proofs.Balance.{stays_both, stays_named}
+use Rattle.p4_expr.proofs.PartsWithin.{index_stays}
+use Rattle.p4_expr.proofs.InLines.{index_in_line}
+use Rattle.p4_statements.proofs.Lines.{past, stop_after}
 use Rattle.p4_statements.proofs.calls.call.Goals as goal
 
 pub returns-in_err-index-clause-only : goal.returns-in_err-index-clause-only
@@ -43,3 +47,11 @@ returns-clause-only c = λ more action index args rest m.
     let m2 = after m1 (λ b f s. c.in_ok-index.ensures.only more index b f (ends_index (codes "(") b refl (begins_bracketed (codes "(") (codes ")") more _ (split s).first))) in
     let m3 = after m2.1 (λ b f s. c.in_ok-args.ensures.only more args b f) in
     (seen_stmt-call c.in_ok-action.action c.in_ok-index.index c.in_ok-args.args ∙ ap (λ a. PlainStmt.Call a c.in_ok-index.index (seen_exprs c.in_ok-args.args)) (named_same m c.in_ok-action.ensures.taken) ∙ ap (λ i. PlainStmt.Call action i (seen_exprs c.in_ok-args.args)) m2.0 ∙ ap (PlainStmt.Call action index) m3.0, same_end m3.1 c.in_ok-sign.ensures.taken)
+
+pub returns-in_err-index-clause-deep : goal.returns-in_err-index-clause-deep
+returns-in_err-index-clause-deep c =
+    deep_answers _ _ c.from_residual-in_err-index.result c.from_residual-in_err-index.ensures.1 (if_deep c.in_err-index.field-0.0 (λ s. inl (stop_after c.args.depth (may c.in_ok-action.ensures.taken) (stays_named c.in_ok-action.action) (in_named c.in_ok-action.action) s)) c.in_err-index.ensures.deep)
+
+pub returns-in_err-args-clause-deep : goal.returns-in_err-args-clause-deep
+returns-in_err-args-clause-deep c =
+    deep_answers _ _ c.from_residual-in_err-args.result c.from_residual-in_err-args.ensures.1 (if_deep c.in_err-args.field-0.0 (λ p. past c.args.depth (may (takes_may c.in_ok-action.ensures.taken c.in_ok-index.ensures.taken)) (stays_both (stays_named c.in_ok-action.action) (index_stays c.args.depth c.in_ok-index.index)) (in_both (in_named c.in_ok-action.action) (index_in_line c.args.depth c.in_ok-index.index)) p) c.in_err-args.ensures.deep)

@@ -1,7 +1,7 @@
 use Rattle.std.proofs.Common.{◌≡◌, [], ◌∷◌, ◌++◌, ap, codes, map, refl, subst, ◌∙◌}
 use Rattle.std.proofs.lemmas.List.{map-append}
 use Rattle.std.proofs.lemmas.List.Elements.{All-cons, All-nil, All-push}
-use Rattle.elastic_ast.specs.Seen.{seen_expr}
+use Rattle.elastic_ast.specs.Seen.{seen_expr, seen_exprs}
 use Rattle.spelling.specs.Grammar.{◌⨟◌, Begins, IsSign, Sign}
 use Rattle.spelling.specs.Reading.{ahead}
 use Rattle.spelling.proofs.Limits.{or_answers, or_as}
@@ -9,7 +9,13 @@ use Rattle.spelling.proofs.Only.{after, after_one, begins_first, not_there, regr
 use Rattle.spelling.proofs.Taking.{first_one, later_more, may, takes_both}
 use Rattle.spelling.proofs.Whole.{first_of, left_first, left_more, none_left, one_left}
 use Rattle.p4_expr.specs.Expressions.{HasFewOperators, SpellsExpr}
-use Rattle.p4_statements.proofs.Arguments.{args_follow, few_at, no_comma}
+use Rattle.p4_statements.proofs.Arguments.{args_follow, few_at, no_comma, take_commas}
+use Rattle.spelling.proofs.Bounds.{deep_answers, if_deep, in_commas, in_sign}
+use Rattle.spelling.proofs.Balance.{stays_commas, stays_sign}
+use Rattle.p4_expr.proofs.Bound.{expr_bound}
+use Rattle.p4_expr.proofs.InLines.{expr_in_line}
+use Rattle.p4_expr.proofs.ExprWithin.{expr_within}
+use Rattle.p4_statements.proofs.Lines.{past}
 use Rattle.p4_statements.proofs.calls.expressions.Goals as goal
 
 pub exprs-init : goal.exprs-init
@@ -52,3 +58,11 @@ pub returns-clause-only : goal.returns-clause-only
 returns-clause-only c = λ more all rest m ends.
     let done = none_left (c.exprs.invariant.only more all rest m ends) (λ e later f. not_there c.exprs-test.ensures.at.1 (begins_first (regroup f))) in
     (done.0, ap ahead (c.exprs-test.ensures.left refl) ∙ done.1)
+
+pub returns-in_err-first-clause-deep : goal.returns-in_err-first-clause-deep
+returns-in_err-first-clause-deep c =
+    deep_answers _ _ c.from_residual.result c.from_residual.ensures.1 (if_deep c.in_err-first.field-0.0 (λ p. expr_bound p) c.in_err-first.ensures.deep)
+
+pub returns-in_err-next-clause-deep : goal.returns-in_err-next-clause-deep
+returns-in_err-next-clause-deep c =
+    deep_answers _ _ c.from_residual-in_err-next.result c.from_residual-in_err-next.ensures.1 (if_deep c.in_err-next.field-0.0 (λ p. past c.args.depth (take_commas c.args.depth (seen_exprs c.exprs.exprs) c.exprs.invariant.taken) (stays_commas (SpellsExpr c.args.depth) (λ e. expr_within) (seen_exprs c.exprs.exprs)) (in_commas (SpellsExpr c.args.depth) (λ e. expr_in_line c.args.depth e) (seen_exprs c.exprs.exprs)) (past c.args.depth (may (c.exprs-test.ensures.taken refl)) (stays_sign (codes ",") refl refl) (in_sign (codes ",") refl refl refl) (expr_bound p))) c.in_err-next.ensures.deep)

@@ -6,6 +6,8 @@ use Rattle.spelling.proofs.Only.{after, alone, begins, ends_sign, same_end, want
 use Rattle.spelling.proofs.Taking.{takes_both}
 use Rattle.spelling.proofs.Limits.{or_answers, want_or}
 use Rattle.p4_expr.specs.GoesOn.{expression_signs}
+use Rattle.spelling.proofs.Bounds.{deep_answers, if_deep}
+use Rattle.p4_expr.proofs.Bound.{expr_bound}
 use Rattle.p4_statements.proofs.plain.assign.Goals as goal
 
 pub returns-clause-taken : goal.returns-clause-taken
@@ -29,3 +31,7 @@ pub returns-clause-only : goal.returns-clause-only
 returns-clause-only c = λ more value rest m.
     let m1 = after m (λ b f s. c.in_ok-value.ensures.only more value b f (ends_sign expression_signs (codes ";") b refl (begins s))) in
     (seen_stmt-assign c.args.to c.in_ok-value.value ∙ ap (PlainStmt.Assign c.args.to) m1.0, same_end m1.1 c.in_ok-sign.ensures.taken)
+
+pub returns-in_err-value-clause-deep : goal.returns-in_err-value-clause-deep
+returns-in_err-value-clause-deep c =
+    deep_answers _ _ c.from_residual.result c.from_residual.ensures.1 (if_deep c.in_err-value.field-0.0 (λ p. expr_bound p) c.in_err-value.ensures.deep)

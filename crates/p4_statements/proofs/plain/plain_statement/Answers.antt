@@ -1,20 +1,22 @@
-use Rattle.std.proofs.Common.{codes, refl, sym, subst}
+use Rattle.std.proofs.Common.{codes, refl, sym, subst, [], ◌≤◌}
 use Rattle.std.proofs.lemmas.List.Elements.{All-cons, All-head, All-nil}
 use Rattle.elastic_ast.specs.Tree.{PlainStmt}
 use Rattle.spelling.specs.Reading.{Takes, IsReading, ahead}
-use Rattle.spelling.proofs.Only.{after, after_one, begins_first, wants, wants_one}
-use Rattle.spelling.proofs.Taking.{takes_both}
-use Rattle.spelling.proofs.Limits.{or_answers, or_as, want_or}
+use Rattle.spelling.proofs.Only.{after, after_one, begins_first, wants, wants_one, not_there}
+use Rattle.spelling.proofs.Taking.{takes_both, may}
+use Rattle.spelling.proofs.Limits.{or_answers, or_as, want_or, reading_as}
 use Rattle.p4_expr.specs.Expressions.{HasFewOperators}
 use Rattle.p4_expr.proofs.PartSpelling.{ends_index}
 use Rattle.p4_statements.specs.Statements.{SpellsPlain}
 use Rattle.p4_statements.specs.Reading.{Assigns, HasFew, ReadsInto}
-use Rattle.std.proofs.Common.{[], ◌≤◌}
 use Rattle.elastic_ast.specs.Seen.{seen_stmt}
-use Rattle.spelling.proofs.Limits.{reading_as}
-use Rattle.spelling.proofs.Only.{not_there}
 use Rattle.p4_statements.proofs.Ahead.{by_plain, if_ok_as, no_write, not_true, place_ahead, place_no_call, place_no_index, place_no_validity, read_ahead, reads_on, validity_ahead, validity_no_call, validity_no_index}
 use Rattle.p4_statements.proofs.NoRead.{no_read_of}
+use Rattle.spelling.proofs.Bounds.{deep_as, in_both, in_sign}
+use Rattle.spelling.proofs.Balance.{stays_both, stays_sign}
+use Rattle.p4_expr.proofs.PartsWithin.{lval_stays}
+use Rattle.p4_expr.proofs.InLines.{lval_in_line}
+use Rattle.p4_statements.proofs.Lines.{past}
 use Rattle.p4_statements.proofs.plain.plain_statement.Goals as goal
 
 pub returns-then-is_at_write-clause-only : goal.returns-then-is_at_write-clause-only
@@ -80,3 +82,11 @@ returns-clause-only c = λ more stmt rest m.
     (λ to reg cell f. let m1 = after f (λ b f s. c.in_ok-to.ensures.only more to b f (ends_index (codes "=") b refl (begins_first s))) in let m2 = after_one m1.1 c.in_ok-sign.ensures.taken in let r = read_ahead more reg cell m2 in absurd (reads_on _ r (λ at next. not_true (c.if-is_at_read.ensures.index r.0 at next)) (λ at next call. not_true (c.if-is_at_read.ensures.call r.0 at next call))))
     (λ reg cell value f. absurd (no_write more reg cell value f (λ at. not_true (c.if-is_at_write.ensures.index at)) (λ at. not_true (c.if-is_at_write.ensures.call at))))
     (λ header on f. let v = validity_ahead more header on f in absurd (not_there c.if-is_at_validity.ensures.1 (v.third, v.call)))
+
+pub returns-then-is_at_read-clause-deep : goal.returns-then-is_at_read-clause-deep
+returns-then-is_at_read-clause-deep c =
+    deep_as c.read.result (λ p. past c.args.depth (may (takes_both c.in_ok-to.ensures.taken c.in_ok-sign.ensures.taken)) (stays_both (lval_stays c.args.depth c.in_ok-to.to) (stays_sign (codes "=") refl refl)) (in_both (lval_in_line c.args.depth c.in_ok-to.to) (in_sign (codes "=") refl refl refl)) p) c.read.ensures.deep
+
+pub returns-clause-deep : goal.returns-clause-deep
+returns-clause-deep c =
+    deep_as c.assign.result (λ p. past c.args.depth (may (takes_both c.in_ok-to.ensures.taken c.in_ok-sign.ensures.taken)) (stays_both (lval_stays c.args.depth c.in_ok-to.to) (stays_sign (codes "=") refl refl)) (in_both (lval_in_line c.args.depth c.in_ok-to.to) (in_sign (codes "=") refl refl refl)) p) c.assign.ensures.deep

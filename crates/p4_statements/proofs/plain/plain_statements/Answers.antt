@@ -1,4 +1,4 @@
-use Rattle.std.proofs.Common.{◌≡◌, [], ◌∷◌, ◌++◌, ap, codes, map, refl, sym, subst, ◌∙◌}
+use Rattle.std.proofs.Common.{◌≡◌, [], ◌∷◌, ◌++◌, ap, codes, map, refl, sym, subst, ◌∙◌, arith}
 use Rattle.std.proofs.lemmas.List.{map-append}
 use Rattle.elastic_ast.specs.Seen.{joined, seen_stmt}
 use Rattle.spelling.specs.Grammar.{Begins, IsSign}
@@ -10,6 +10,9 @@ use Rattle.p4_statements.specs.Reading.{HaveFew}
 use Rattle.p4_statements.specs.Statements.{SpellsPlain}
 use Rattle.p4_statements.proofs.Ahead.{plain_no_sign}
 use Rattle.p4_statements.proofs.Lists.{few_next, few_push, joined_listed, listed, take_listed, take_plains}
+use Rattle.spelling.proofs.Bounds.{deep_answers, even, if_deep, line_opens}
+use Rattle.p4_expr.proofs.Bound.{bound_as, bound_opens}
+use Rattle.p4_statements.proofs.StatementsWithin.{plains_stay}
 use Rattle.p4_statements.proofs.plain.plain_statements.Goals as goal
 
 pub stmts-preserved : goal.stmts-preserved
@@ -36,3 +39,7 @@ pub returns-clause-only : goal.returns-clause-only
 returns-clause-only c = λ more stmts rest m ends.
     let r = none_left (c.stmts.invariant.only more (listed stmts) rest (take_listed more stmts m) ends) (λ stmt later f. plain_no_sign more stmt (codes "}") f (c.stmts-test.ensures.0 refl)) in
     (ap joined r.0 ∙ joined_listed stmts, r.1)
+
+pub returns-in_err-stmt-clause-deep : goal.returns-in_err-stmt-clause-deep
+returns-in_err-stmt-clause-deep c =
+    deep_answers _ _ c.from_residual.result c.from_residual.ensures.1 (if_deep c.in_err-stmt.field-0.0 (λ p. bound_opens c.args.depth 0 c.args.depth 0 0 (omega arith) (omega arith) (even c.args.depth (plains_stay c.args.depth (joined (map seen_stmt c.stmts.stmts))) (take_plains c.args.depth (map seen_stmt c.stmts.stmts) c.stmts.invariant.taken)) (bound_as (line_opens c.args.depth) (omega arith) p)) c.in_err-stmt.ensures.deep)

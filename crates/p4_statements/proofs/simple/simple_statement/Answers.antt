@@ -5,16 +5,16 @@ use Rattle.p4_statements.specs.Reading.{HasFew}
 use Rattle.std.proofs.Common.{◌≤◌, drop, inl, inr}
 use Rattle.elastic_ast.specs.Seen.{seen_stmt}
 use Rattle.spelling.proofs.Limits.{reading_as}
-use Rattle.spelling.proofs.Only.{not_there}
+use Rattle.spelling.proofs.Only.{no_sign, not_there}
 use Rattle.spelling.proofs.Taking.{takes_as}
-use Rattle.p4_statements.proofs.Ahead.{apply_words, by_simple, call_words, if_ok_as, not_both, not_true, plain_none, plain_simple}
+use Rattle.p4_statements.proofs.Ahead.{apply_words, by_simple, call_words, if_ok_as, not_true, plain_none, plain_simple}
 use Rattle.p4_statements.proofs.simple.simple_statement.Goals as goal
 
 pub returns-then-is_at_call-clause-only : goal.returns-then-is_at_call-clause-only
 returns-then-is_at_call-clause-only c = λ more stmt rest m.
     by_simple more (λ s. IsReading ((more ≤ c.args.depth) × HasFew s) seen_stmt s rest (ahead c.call.new.reader) c.call.result) stmt m
     (λ action index args f. c.call.ensures.only more action index args rest f)
-    (λ table f. let w = apply_words more table f in absurd (c.if-is_at_call.ensures.none refl (λ at. not_both (codes ".") (codes "(") (drop 1 (ahead c.args.reader.now)) refl w.0 at) (λ at _. not_both (codes ".") (codes "[") (drop 1 (ahead c.args.reader.now)) refl w.0 at)))
+    (λ table f. let w = apply_words more table f in absurd (c.if-is_at_call.ensures.none refl (λ at. no_sign (codes ".") (codes "(") (drop 1 (ahead c.args.reader.now)) refl w.0 at) (λ at _. no_sign (codes ".") (codes "[") (drop 1 (ahead c.args.reader.now)) refl w.0 at)))
     (λ plain f. let n = plain_none more plain f in absurd (c.if-is_at_call.ensures.none refl n.plain n.index))
 
 pub returns-then-is_at_apply-clause-only : goal.returns-then-is_at_apply-clause-only

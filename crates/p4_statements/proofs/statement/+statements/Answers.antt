@@ -18,6 +18,8 @@ use Rattle.p4_statements.specs.Reading.{HasFew, HaveFew, SpellsSimple}
 use Rattle.p4_statements.proofs.Ahead.{if_ok_as}
 use Rattle.p4_statements.proofs.Forms.{Braces, alone_there, block_of, braces_begin, braces_there, branch_of, closed_end, else_of, for_of, if_of, is_block, is_for, is_if, is_simple, no_bare, one_less, one_of, simple_of, stmt_no_closing}
 use Rattle.p4_statements.proofs.Lists.{SpellsAny, all_front, any_end, else_few, few_next, few_push, if_few, joined_listed, list_stmts, listed, no_else_follows, of_any, take_stmts}
+use Rattle.spelling.proofs.Bounds.{deep_answers, deep_as, forbidden, if_deep}
+use Rattle.p4_statements.proofs.Begun.{after_condition, after_else, after_stage, after_turns, block_here, condition_open, in_alone, in_block, in_braced, in_stmt, in_stmts}
 use Rattle.p4_statements.proofs.statement.+statements.Goals as goal
 
 pub block-returns-in_err-stage-clause-only : goal.block-returns-in_err-stage-clause-only
@@ -240,3 +242,57 @@ pub statements-returns-clause-only : goal.statements-returns-clause-only
 statements-returns-clause-only t c = λ more stmts rest m ends.
     let r = none_left (c.stmts.invariant.only more (listed stmts) rest (list_stmts more stmts m) ends) (λ stmt later f. let s = split f in stmt_no_closing more s.first.spelled.0 stmt (of_any s.first) (c.stmts-test.ensures.0 refl)) in
     (ap joined r.0 ∙ joined_listed stmts, r.1)
+
+pub block-returns-in_err-stage-clause-deep : goal.block-returns-in_err-stage-clause-deep
+block-returns-in_err-stage-clause-deep t c =
+    deep_answers _ _ c.from_residual.result c.from_residual.ensures.1 (if_deep c.in_err-stage.field-0.0 (λ s. in_stmt (inl s)) c.in_err-stage.ensures.deep)
+
+pub block-returns-in_err-body-clause-deep : goal.block-returns-in_err-body-clause-deep
+block-returns-in_err-body-clause-deep t c =
+    deep_answers _ _ c.from_residual-in_err-body.result c.from_residual-in_err-body.ensures.1 (if_deep c.in_err-body.field-0.0 (λ p. after_stage c.in_ok-stage.stage c.in_ok-stage.ensures.taken p) c.in_err-body.ensures.deep)
+
+pub conditional-returns-in_err-cond-clause-deep : goal.conditional-returns-in_err-cond-clause-deep
+conditional-returns-in_err-cond-clause-deep t c =
+    deep_answers _ _ c.from_residual.result c.from_residual.ensures.1 (if_deep c.in_err-cond.field-0.0 (λ p. in_stmt p) c.in_err-cond.ensures.deep)
+
+pub conditional-returns-in_err-yes-clause-deep : goal.conditional-returns-in_err-yes-clause-deep
+conditional-returns-in_err-yes-clause-deep t c =
+    deep_answers _ _ c.from_residual-in_err-yes.result c.from_residual-in_err-yes.ensures.1 (if_deep c.in_err-yes.field-0.0 (λ p. after_condition (seen_expr c.in_ok-cond.cond) c.in_ok-cond.ensures.taken p) (c.in_err-yes.ensures.deep (condition_open (seen_expr c.in_ok-cond.cond) c.in_ok-cond.ensures.taken)))
+
+pub conditional-returns-in_err-no-clause-deep : goal.conditional-returns-in_err-no-clause-deep
+conditional-returns-in_err-no-clause-deep t c =
+    let yes = c.in_ok-yes.ensures.taken in
+    let closed = closed_end yes.open_end _ yes.ends (c.if-not-is_at_reserved.ensures.0 refl) in
+    let first = subst (λ o. Takes (SpellsBranch c.args.depth o (seen_stmts c.in_ok-yes.yes)) (ahead c.condition.new.reader) (ahead c.branch-alloc.new.reader)) closed yes.taken in
+    let deep = c.in_err-no.ensures.deep (condition_open (seen_expr c.in_ok-cond.cond) c.in_ok-cond.ensures.taken) in
+    deep_answers _ _ c.from_residual-in_err-no.result c.from_residual-in_err-no.ensures.1 (if_deep c.in_err-no.field-0.0 (λ p. after_else (seen_expr c.in_ok-cond.cond) (seen_stmts c.in_ok-yes.yes) c.in_ok-cond.ensures.taken first c.in_ok-reserved.ensures.taken p) deep)
+
+pub repeated-returns-in_err-index-clause-deep : goal.repeated-returns-in_err-index-clause-deep
+repeated-returns-in_err-index-clause-deep t c =
+    deep_answers _ _ c.from_residual.result c.from_residual.ensures.1 (if_deep c.in_err-index.field-0.0 (λ s. in_stmt (inl s)) c.in_err-index.ensures.deep)
+
+pub repeated-returns-in_err-body-clause-deep : goal.repeated-returns-in_err-body-clause-deep
+repeated-returns-in_err-body-clause-deep t c =
+    deep_answers _ _ c.from_residual-in_err-body.result c.from_residual-in_err-body.ensures.1 (if_deep c.in_err-body.field-0.0 (λ p. after_turns c.in_ok-index.index c.in_ok-index.size c.in_ok-index.ensures.taken p) c.in_err-body.ensures.deep)
+
+pub in_braces-returns-in_err-inner-clause-deep : goal.in_braces-returns-in_err-inner-clause-deep
+in_braces-returns-in_err-inner-clause-deep t c =
+    deep_answers _ _ c.from_residual.result c.from_residual.ensures.1 (if_deep c.in_err-inner.field-0.0 (λ h. block_here (ap ahead c.in_err-inner.ensures.left) h) (forbidden (codes "{") refl c.args.depth _ _ _ c.in_err-inner.ensures.refused))
+
+pub in_braces-returns-in_err-stmts-clause-deep : goal.in_braces-returns-in_err-stmts-clause-deep
+in_braces-returns-in_err-stmts-clause-deep t c =
+    deep_answers _ _ c.from_residual-in_err-stmts.result c.from_residual-in_err-stmts.ensures.1 (if_deep c.in_err-stmts.field-0.0 (λ p. in_block c.in_ok-inner.ensures.depth c.in_ok-inner.ensures.taken p) c.in_err-stmts.ensures.deep)
+
+pub branch-returns-then-is_at_sign-clause-deep : goal.branch-returns-then-is_at_sign-clause-deep
+branch-returns-then-is_at_sign-clause-deep t c = λ some. deep_as c.in_braces.result (λ p. in_braced p) c.in_braces.ensures.deep
+
+pub branch-returns-in_err-stmt-clause-deep : goal.branch-returns-in_err-stmt-clause-deep
+branch-returns-in_err-stmt-clause-deep t c = λ some.
+    deep_answers _ _ c.from_residual.result c.from_residual.ensures.1 (if_deep c.in_err-stmt.field-0.0 (λ p. in_alone c.if-depth-eq0.false (not_there c.if-is_at_sign.ensures.1) p) c.in_err-stmt.ensures.deep)
+
+pub statement-returns-clause-deep : goal.statement-returns-clause-deep
+statement-returns-clause-deep t c = deep_as c.simple_statement.result (λ p. in_stmt p) c.simple_statement.ensures.deep
+
+pub statements-returns-in_err-stmt-clause-deep : goal.statements-returns-in_err-stmt-clause-deep
+statements-returns-in_err-stmt-clause-deep t c =
+    deep_answers _ _ c.from_residual.result c.from_residual.ensures.1 (if_deep c.in_err-stmt.field-0.0 (λ p. in_stmts (take_stmts c.args.depth (map seen_stmt c.stmts.stmts) c.stmts.invariant.taken) p) c.in_err-stmt.ensures.deep)

@@ -1,13 +1,13 @@
-use Rattle.std.proofs.Common.{ap, codes, refl, sym, ◌∙◌}
+use Rattle.std.proofs.Common.{ap, codes, refl, sym, ◌∙◌, Some, arith}
 use Rattle.spelling.specs.Reading.{ahead}
-use Rattle.spelling.proofs.Only.{after_one, alone, same_end, wants_one}
-use Rattle.spelling.proofs.Taking.{may, takes_both, takes_bracketed}
+use Rattle.spelling.proofs.Only.{after_one, alone, same_end, wants_one, not_there, number_same, wants_number}
+use Rattle.spelling.proofs.Taking.{may, takes_both, takes_bracketed, may_empty, takes_where}
 use Rattle.spelling.proofs.Limits.{inside, opens_or, or_answers, want_or}
-use Rattle.std.proofs.Common.{Some, arith}
 use Rattle.spelling.specs.Grammar.{Num}
-use Rattle.spelling.proofs.Only.{not_there, number_same, wants_number}
-use Rattle.spelling.proofs.Taking.{may_empty, takes_where}
 use Rattle.p4_statements.proofs.Heads.{stage_missing, stage_there}
+use Rattle.spelling.proofs.Bounds.{deep_answers, forbidden, if_deep, in_both, in_named, in_sign}
+use Rattle.spelling.proofs.Balance.{stays_both, stays_named, stays_sign}
+use Rattle.p4_statements.proofs.Lines.{line_here, stop_after}
 use Rattle.p4_statements.proofs.statement.stage.Goals as goal
 
 pub returns-then-not-eat_sign-clause-taken : goal.returns-then-not-eat_sign-clause-taken
@@ -63,3 +63,8 @@ returns-clause-only c = λ more stage rest m ends.
     let m3 = after_one i.parts c.in_ok-_inner.ensures.taken in
     let m4 = after_one m3 c.in_ok-stage.ensures.taken in
     (ap Some (number_same m3 c.in_ok-stage.ensures.taken) ∙ sym s.is, same_end m4 c.in_ok-sign.ensures.taken)
+
+pub returns-in_err-_inner-clause-deep : goal.returns-in_err-_inner-clause-deep
+returns-in_err-_inner-clause-deep c =
+    let front = takes_both (c.if-not-eat_sign.ensures.taken refl) c.in_ok-fixed_name.ensures.taken in
+    deep_answers _ _ c.from_residual-in_err-_inner.result c.from_residual-in_err-_inner.ensures.1 (if_deep c.in_err-_inner.field-0.0 (λ h. stop_after c.args.depth (may front) (stays_both (stays_sign (codes "@") refl refl) (stays_named (codes "stage"))) (in_both (in_sign (codes "@") refl refl refl) (in_named (codes "stage"))) (line_here (ap ahead c.in_err-_inner.ensures.left) h)) (forbidden (codes "(") refl c.args.depth _ _ _ c.in_err-_inner.ensures.refused))

@@ -1,4 +1,4 @@
-use Rattle.std.proofs.Common.{[], ◌∷◌, ap, codes, map, refl, subst, sym, ◌∙◌}
+use Rattle.std.proofs.Common.{[], ◌∷◌, ap, codes, map, refl, subst, sym, ◌∙◌, arith}
 use Rattle.std.proofs.lemmas.List.{map-append}
 use Rattle.elastic_ast.specs.Seen.{seen_entry}
 use Rattle.spelling.specs.Grammar.{Begins, IsSign}
@@ -8,6 +8,9 @@ use Rattle.spelling.proofs.Taking.{may, may_empty, each_more}
 use Rattle.spelling.proofs.Whole.{left_all, left_more, none_left, one_left}
 use Rattle.p4_tables.specs.Tables.{SpellsEntry}
 use Rattle.p4_tables.proofs.EntrySpelling.{entry_no_end}
+use Rattle.spelling.proofs.Balance.{stays_each}
+use Rattle.spelling.proofs.Bounds.{deep_answers, even, if_deep, stop_opens}
+use Rattle.p4_tables.proofs.TablesWithin.{entry_stays}
 use Rattle.p4_tables.proofs.entries.entries.Goals as goal
 
 pub entries-init : goal.entries-init
@@ -32,3 +35,8 @@ returns-in_err-entry-clause-only c = λ more all rest m at.
 pub returns-clause-only : goal.returns-clause-only
 returns-clause-only c = λ more all rest m at.
     none_left (c.entries.invariant.only more all rest m at) (λ entry later f. entry_no_end more entry f (c.entries-test.ensures.0 refl))
+
+pub returns-in_err-entry-clause-deep : goal.returns-in_err-entry-clause-deep
+returns-in_err-entry-clause-deep c =
+    let front = even c.args.depth (stays_each (SpellsEntry c.args.depth) (entry_stays c.args.depth) (map seen_entry c.entries.entries)) c.entries.invariant.taken in
+    deep_answers _ _ c.from_residual.result c.from_residual.ensures.1 (if_deep c.in_err-entry.field-0.0 (λ s. stop_opens c.args.depth 0 c.args.depth (omega arith) front s) c.in_err-entry.ensures.deep)

@@ -1,10 +1,13 @@
-use Rattle.std.proofs.Common.{ap, codes}
+use Rattle.std.proofs.Common.{ap, codes, refl}
 use Rattle.spelling.specs.Grammar.{Each}
 use Rattle.spelling.proofs.Limits.{inside, opens_or, or_answers, want_or}
 use Rattle.spelling.proofs.Only.{after, after_one, alone, begins, same_end, wants, wants_one}
-use Rattle.spelling.proofs.Taking.{takes_both, takes_bracketed}
+use Rattle.spelling.proofs.Taking.{takes_both, takes_bracketed, may}
 use Rattle.p4_tables.specs.Tables.{Property}
 use Rattle.p4_tables.proofs.EntrySpelling.{NameLine}
+use Rattle.spelling.specs.Reading.{ahead}
+use Rattle.spelling.proofs.Balance.{stays_both, stays_named, stays_sign}
+use Rattle.spelling.proofs.Bounds.{deep_answers, even, stop_open}
 use Rattle.p4_tables.proofs.properties.actions_part.Goals as goal
 
 pub returns-in_err-_inner-clause-only : goal.returns-in_err-_inner-clause-only
@@ -39,3 +42,8 @@ returns-clause-only c = λ more names rest m.
     let m3 = after_one i.parts c.in_ok-_inner.ensures.taken in
     let r4 = after m3 (λ b f s. c.in_ok-names.ensures.only names b f (begins s)) in
     (ap Property.Actions r4.0, same_end r4.1 c.in_ok-sign-2.ensures.taken)
+
+pub returns-in_err-_inner-clause-deep : goal.returns-in_err-_inner-clause-deep
+returns-in_err-_inner-clause-deep c =
+    let front = even c.args.depth (stays_both (stays_named (codes "actions")) (stays_sign (codes "=") refl refl)) (may (takes_both c.in_ok-fixed_name.ensures.taken c.in_ok-sign.ensures.taken)) in
+    deep_answers _ _ c.from_residual-in_err-_inner.result c.from_residual-in_err-_inner.ensures.1 (stop_open c.args.depth (codes "{") _ c.in_err-_inner.field-0.0 refl front (ap ahead c.in_err-_inner.ensures.left) c.in_err-_inner.ensures.refused)

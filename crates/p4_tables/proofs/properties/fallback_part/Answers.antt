@@ -1,9 +1,11 @@
-use Rattle.std.proofs.Common.{ap, ◌∙◌}
+use Rattle.std.proofs.Common.{ap, ◌∙◌, arith, codes, refl}
 use Rattle.elastic_ast.specs.Seen.{seen_exprs}
 use Rattle.spelling.proofs.Limits.{or_answers, want_or}
 use Rattle.spelling.proofs.Only.{after, after_one, alone, begins_first, named_same, same_end, wants, wants_name, wants_one}
-use Rattle.spelling.proofs.Taking.{may_takes, takes_both}
+use Rattle.spelling.proofs.Taking.{may_takes, takes_both, may}
 use Rattle.p4_tables.specs.Tables.{Property}
+use Rattle.spelling.proofs.Balance.{stays_both, stays_either, stays_empty, stays_named, stays_reserved, stays_sign}
+use Rattle.spelling.proofs.Bounds.{deep_answers, even, if_deep, stop_opens}
 use Rattle.p4_tables.proofs.properties.fallback_part.Goals as goal
 
 pub returns-in_err-const_before-clause-only : goal.returns-in_err-const_before-clause-only
@@ -54,3 +56,9 @@ returns-clause-only c = λ more action args rest m.
     let m4 = after_one m3 c.in_ok-action.ensures.taken in
     let r5 = after m4 (λ b f s. c.in_ok-args.ensures.only more args b f) in
     (ap (λ name. Property.Fallback name (seen_exprs c.in_ok-args.args)) (named_same m3 c.in_ok-action.ensures.taken) ∙ ap (Property.Fallback action) r5.0, same_end r5.1 c.in_ok-sign-2.ensures.taken)
+
+pub returns-in_err-args-clause-deep : goal.returns-in_err-args-clause-deep
+returns-in_err-args-clause-deep c =
+    let stay = stays_both (stays_either stays_empty (stays_reserved (codes "const"))) (stays_both (stays_named (codes "default_action")) (stays_both (stays_sign (codes "=") refl refl) (stays_named c.in_ok-action.action))) in
+    let front = even c.args.depth stay (may (may_takes c.in_ok-const_before.ensures.taken (takes_both c.in_ok-fixed_name.ensures.taken (takes_both c.in_ok-sign.ensures.taken c.in_ok-action.ensures.taken)))) in
+    deep_answers _ _ c.from_residual-in_err-args.result c.from_residual-in_err-args.ensures.1 (if_deep c.in_err-args.field-0.0 (λ s. stop_opens c.args.depth 0 c.args.depth (omega arith) front s) c.in_err-args.ensures.deep)

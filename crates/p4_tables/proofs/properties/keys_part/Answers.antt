@@ -1,9 +1,12 @@
-use Rattle.std.proofs.Common.{ap, codes}
+use Rattle.std.proofs.Common.{ap, codes, arith, refl}
 use Rattle.spelling.specs.Grammar.{Each}
 use Rattle.spelling.proofs.Limits.{inside, opens_or, or_answers, or_as, want_or}
 use Rattle.spelling.proofs.Only.{after, after_one, alone, begins, same_end, wants, wants_one}
-use Rattle.spelling.proofs.Taking.{takes_both, takes_bracketed}
+use Rattle.spelling.proofs.Taking.{takes_both, takes_bracketed, may}
 use Rattle.p4_tables.specs.Tables.{Property, SpellsKey}
+use Rattle.spelling.specs.Reading.{ahead}
+use Rattle.spelling.proofs.Balance.{stays_both, stays_named, stays_sign}
+use Rattle.spelling.proofs.Bounds.{deep_answers, even, if_deep, one_open, opens_then, stop_open, stop_opens}
 use Rattle.p4_tables.proofs.properties.keys_part.Goals as goal
 
 pub returns-in_err-inner-clause-only : goal.returns-in_err-inner-clause-only
@@ -38,3 +41,14 @@ returns-clause-only c = λ more keys rest m.
     let m3 = after_one i.parts c.in_ok-inner.ensures.taken in
     let r4 = after m3 (λ b f s. c.in_ok-keys.ensures.only i.within keys b f (begins s)) in
     (ap Property.Keys r4.0, same_end r4.1 c.in_ok-sign-2.ensures.taken)
+
+pub returns-in_err-inner-clause-deep : goal.returns-in_err-inner-clause-deep
+returns-in_err-inner-clause-deep c =
+    let front = even c.args.depth (stays_both (stays_named (codes "key")) (stays_sign (codes "=") refl refl)) (may (takes_both c.in_ok-fixed_name.ensures.taken c.in_ok-sign.ensures.taken)) in
+    deep_answers _ _ c.from_residual-in_err-inner.result c.from_residual-in_err-inner.ensures.1 (stop_open c.args.depth (codes "{") _ c.in_err-inner.field-0.0 refl front (ap ahead c.in_err-inner.ensures.left) c.in_err-inner.ensures.refused)
+
+pub returns-in_err-keys-clause-deep : goal.returns-in_err-keys-clause-deep
+returns-in_err-keys-clause-deep c =
+    let front = even c.args.depth (stays_both (stays_named (codes "key")) (stays_sign (codes "=") refl refl)) (may (takes_both c.in_ok-fixed_name.ensures.taken c.in_ok-sign.ensures.taken)) in
+    let opened = opens_then 0 1 front (one_open (codes "{") refl (may c.in_ok-inner.ensures.taken)) in
+    deep_answers _ _ c.from_residual-in_err-keys.result c.from_residual-in_err-keys.ensures.1 (if_deep c.in_err-keys.field-0.0 (λ s. stop_opens c.args.depth 1 c.in_ok-inner.inner (omega (arith, c.in_ok-inner.ensures.depth)) opened s) c.in_err-keys.ensures.deep)

@@ -1,4 +1,4 @@
-use Rattle.std.proofs.Common.{[], ◌∷◌, ◌≢◌, All, ap, codes, map, refl, subst, sym, ◌∙◌}
+use Rattle.std.proofs.Common.{[], ◌∷◌, ◌≢◌, All, ap, codes, map, refl, subst, sym, ◌∙◌, arith}
 use Rattle.std.proofs.lemmas.List.{map-append}
 use Rattle.std.proofs.lemmas.List.Quantifiers.{all_pairs_push}
 use Rattle.spelling.specs.Grammar.{Begins, IsSign}
@@ -9,6 +9,9 @@ use Rattle.spelling.proofs.Whole.{left_more, none_left, one_left}
 use Rattle.p4_tables.specs.Seen.{seen_part}
 use Rattle.p4_tables.specs.Tables.{SpellsProperty, kind_of}
 use Rattle.p4_tables.proofs.TableSpelling.{apart_before, property_no_end}
+use Rattle.spelling.proofs.Balance.{stays_each}
+use Rattle.spelling.proofs.Bounds.{deep_answers, even, if_deep, stop_opens}
+use Rattle.p4_tables.proofs.TablesWithin.{property_stays}
 use Rattle.p4_tables.proofs.reading.properties.Goals as goal
 
 pub parts-preserved : goal.parts-preserved
@@ -34,3 +37,8 @@ returns-in_err-part-clause-only c = λ more all rest m apart at.
 pub returns-clause-only : goal.returns-clause-only
 returns-clause-only c = λ more all rest m apart at.
     none_left (c.parts.invariant.only more all rest m apart at) (λ property later f. property_no_end more property f (c.parts-test.ensures.0 refl))
+
+pub returns-in_err-part-clause-deep : goal.returns-in_err-part-clause-deep
+returns-in_err-part-clause-deep c =
+    let front = even c.args.depth (stays_each (SpellsProperty c.args.depth) (property_stays c.args.depth) (map seen_part c.parts.parts)) c.parts.invariant.taken in
+    deep_answers _ _ c.from_residual.result c.from_residual.ensures.1 (if_deep c.in_err-part.field-0.0 (λ s. stop_opens c.args.depth 0 c.args.depth (omega arith) front s) c.in_err-part.ensures.deep)

@@ -1,11 +1,14 @@
-use Rattle.std.proofs.Common.{ap, codes, map, sym, ◌∙◌}
+use Rattle.std.proofs.Common.{ap, codes, map, sym, ◌∙◌, arith, refl}
 use Rattle.spelling.specs.Grammar.{Each}
 use Rattle.spelling.proofs.Limits.{inside, opens_or, or_answers, or_as, want_or}
 use Rattle.spelling.proofs.Only.{after, after_one, alone, begins, named_same, same_end, wants, wants_name, wants_one}
-use Rattle.spelling.proofs.Taking.{takes_both, takes_bracketed}
+use Rattle.spelling.proofs.Taking.{takes_both, takes_bracketed, may}
 use Rattle.p4_tables.specs.Seen.{seen_part}
 use Rattle.p4_tables.specs.Tables.{SpellsProperty, table_with}
 use Rattle.p4_tables.proofs.TableSpelling.{table_words, takes_table}
+use Rattle.spelling.specs.Reading.{ahead}
+use Rattle.spelling.proofs.Balance.{stays_both, stays_named, stays_reserved}
+use Rattle.spelling.proofs.Bounds.{deep_answers, even, if_deep, one_open, opens_then, stop_open, stop_opens}
 use Rattle.p4_tables.proofs.reading.table.Goals as goal
 
 pub returns-in_err-reserved-clause-only : goal.returns-in_err-reserved-clause-only
@@ -53,3 +56,14 @@ returns-clause-only c = λ more table rest m.
     let m3 = after_one i.parts c.in_ok-inner.ensures.taken in
     let r4 = after m3 (λ b f s. c.in_ok-parts.ensures.only i.within m.spelled.properties b f m.spelled.no_two (begins s)) in
     (c.table_of.ensures ∙ ap (table_with c.in_ok-name.name) r4.0 ∙ ap (λ name. table_with name m.spelled.properties) (named_same m1 c.in_ok-name.ensures.taken) ∙ sym m.spelled.has_them, same_end r4.1 c.in_ok-sign.ensures.taken)
+
+pub returns-in_err-inner-clause-deep : goal.returns-in_err-inner-clause-deep
+returns-in_err-inner-clause-deep c =
+    let front = even c.args.depth (stays_both (stays_reserved (codes "table")) (stays_named c.in_ok-name.name)) (may (takes_both c.in_ok-reserved.ensures.taken c.in_ok-name.ensures.taken)) in
+    deep_answers _ _ c.from_residual-in_err-inner.result c.from_residual-in_err-inner.ensures.1 (stop_open c.args.depth (codes "{") _ c.in_err-inner.field-0.0 refl front (ap ahead c.in_err-inner.ensures.left) c.in_err-inner.ensures.refused)
+
+pub returns-in_err-parts-clause-deep : goal.returns-in_err-parts-clause-deep
+returns-in_err-parts-clause-deep c =
+    let front = even c.args.depth (stays_both (stays_reserved (codes "table")) (stays_named c.in_ok-name.name)) (may (takes_both c.in_ok-reserved.ensures.taken c.in_ok-name.ensures.taken)) in
+    let opened = opens_then 0 1 front (one_open (codes "{") refl (may c.in_ok-inner.ensures.taken)) in
+    deep_answers _ _ c.from_residual-in_err-parts.result c.from_residual-in_err-parts.ensures.1 (if_deep c.in_err-parts.field-0.0 (λ s. stop_opens c.args.depth 1 c.in_ok-inner.inner (omega (arith, c.in_ok-inner.ensures.depth)) opened s) c.in_err-parts.ensures.deep)

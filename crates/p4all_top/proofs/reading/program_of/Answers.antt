@@ -3,7 +3,7 @@ use Rattle.p4all_top.proofs.reading.program_of.Goals as goal
 
 pub returns-in-Err-parse : goal.returns-in-Err-parse
 returns-in-Err-parse c =
-    refused_tree c.args.text.now c.in-Ok.tokens c.as_slice.result.now c.in-Err-parse.error c.in_ok-refused_by_parser-in-Err-parse.field-0 c.in-Ok.ensures.tokens c.as_slice.ensures c.in-Err-parse.ensures.only c.in-Err-parse.ensures.named
+    refused_tree c.args.text.now c.in-Ok.tokens c.as_slice.result.now c.in-Err-parse.error c.in_ok-refused_by_parser-in-Err-parse.field-0 c.in-Ok.ensures.tokens c.as_slice.ensures c.in-Err-parse.ensures.only c.in-Err-parse.ensures.named c.in-Err-parse.ensures.deep
     c.in_ok-refused_by_parser-in-Err-parse.ensures
 
 pub returns-in-Ok-check : goal.returns-in-Ok-check
