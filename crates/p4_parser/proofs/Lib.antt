@@ -13,3 +13,4 @@ pub mod DeclForms
 pub mod StateSpelling
 pub mod ActionSpelling
 pub mod ControlSpelling
+pub mod BegunLaws

@@ -1,13 +1,15 @@
 //! Laws of the grammar of whole programs, each the contract of an empty function.
 
-ghost use Rattle.std.specs.Prelude.{◌≡◌, ℕ, ◌≤◌, Bool, true, false, List, ◌∷◌, codes};
+ghost use Rattle.std.specs.Prelude.{◌≡◌, ℕ, ◌+◌, ◌≤◌, Bool, true, false, List, ◌∷◌, ◌++◌, codes};
 ghost use Rattle.elastic_ast.specs.Tree.{PlainExpr, PlainStmt, PlainStmts, PlainTable, PlainProgram};
 ghost use Rattle.elastic_ast.specs.declared.declarations.Key.{Key};
 ghost use Rattle.spelling.specs.Words.{Word};
-ghost use Rattle.spelling.specs.Grammar.{Begins, IsSign};
-ghost use Rattle.spelling.specs.Brackets.{most_open};
+ghost use Rattle.spelling.specs.Grammar.{Begins, IsReserved, IsSign};
+ghost use Rattle.spelling.specs.Brackets.{most_open, open_behind};
+ghost use Rattle.spelling.specs.Bounds.{Opens};
 ghost use Rattle.p4_tables.specs.Tables.{Property, SpellsTable};
 ghost use Rattle.p4_statements.specs.Statements.{SpellsStmt, SpellsStmts, SpellsBranch};
+ghost use Rattle.p4_statements.specs.Begun.{StmtsBegun};
 ghost use Rattle.p4_parser.specs.Declarations.{SpellsProgram};
 
 /// An `if` without `else` is always open, and so, as the first branch of an `if` with `else`, it has brackets around it.
@@ -31,4 +33,10 @@ pub fn law_of_greater_depths()
 pub fn law_of_open_brackets()
     ensures statements { (depth : ℕ) (stmts : PlainStmts) (ws : List Word) → SpellsStmts depth stmts ws → most_open ws ≤ depth }
     ensures programs { (depth : ℕ) (program : PlainProgram) (ws : List Word) → SpellsProgram depth program ws → most_open ws ≤ depth }
+{}
+
+/// What is begun of statements has no more brackets open than it counts, and just as many where no `if` stands in it.
+pub fn law_of_begun_statements()
+    ensures at_most { (after ws : List Word) (count before : ℕ) → StmtsBegun after count ws → open_behind before ws ≤ before + count }
+    ensures without_if { (after ws : List Word) (count : ℕ) → ((front back : List Word) → ws ≡ front ++ back → Begins (IsReserved (codes "if")) back → ⊥) → StmtsBegun after count ws → Opens count ws }
 {}

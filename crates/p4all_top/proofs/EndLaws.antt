@@ -1,6 +1,5 @@
 -- How a run must end, from what it answers: no two causes stand together.
 use Rattle.std.proofs.Common.{◌≡◌, ℕ, ◌<◌, ◌≤◌, List, [], length, get_or, Option, Some, None, refl, sym, ap, ◌∙◌, subst, arith, inl, inr, rules}
-use Rattle.std.specs.Prelude.{◌⊎◌}
 use Rattle.std.proofs.lemmas.Grind.{same_number_lists}
 use Rattle.elastic_ast.specs.Tree.{PlainProgram}
 use Rattle.elastic_ast.specs.Sums.{symbols_of}

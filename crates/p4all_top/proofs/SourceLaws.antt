@@ -1,5 +1,5 @@
 -- What program a text spells, or why it spells none, from what its readers answered.
-use Rattle.std.proofs.Common.{◌≡◌, ℕ, ◌≤◌, Bool, true, false, List, [], ◌∷◌, length, Some, refl, sym, ap, ◌∙◌, subst, true≢false, arith, inl, inr}
+use Rattle.std.proofs.Common.{◌≡◌, ℕ, ◌≤◌, true, false, List, [], ◌∷◌, length, Some, refl, sym, ap, ◌∙◌, subst, true≢false, arith, inl, inr}
 use Rattle.std.specs.Prelude.{◌⊎◌, Result, Ok, Err, All}
 use Rattle.std.specs.List.{list_all}
 use Rattle.std.proofs.lemmas.Bool.{and_parts}
@@ -10,10 +10,7 @@ use Rattle.elastic_ast.specs.declared.declarations.Program.{Program}
 use Rattle.elastic_ast.specs.Seen.{seen_decls, seen_program}
 use Rattle.elastic_ast.specs.Tree.{PlainDecl, PlainProgram}
 use Rattle.elastic_ast.specs.Typed.{Typed}
-use Rattle.p4_lexer.specs.declared.token.LexError.{LexError}
-use Rattle.p4_lexer.specs.declared.token.LexError.TheVariants as lexed
 use Rattle.p4_lexer.specs.declared.token.Token.{Token}
-use Rattle.p4_lexer.specs.BadPlaces.{IsBad}
 use Rattle.p4_lexer.specs.Tokens.{TokensOf}
 use Rattle.p4_lexer.proofs.OneReading.{one_list, bad_has_none}
 use Rattle.p4_parser.specs.Declarations.{SpellsProgram}
@@ -31,8 +28,8 @@ use Rattle.width_check.specs.Begun.{is_begun, HasOther}
 use Rattle.width_check.specs.Broken.{IsBroken}
 use Rattle.p4all_top.specs.declared.reading.Refusal.{Refusal}
 use Rattle.p4all_top.specs.declared.reading.Refusal.TheVariants as refusal
-use Rattle.p4all_top.specs.Refusing.{lexer_refusal, parser_refusal, check_refusal}
-use Rattle.p4all_top.specs.Source.{IsProgram, HasNoProgram, IsOnlyProgram, IsNoSource, IsRefusedBy, IsSourceRefused}
+use Rattle.p4all_top.specs.Refusing.{parser_refusal, check_refusal}
+use Rattle.p4all_top.specs.Source.{HasNoProgram, IsOnlyProgram, IsNoSource, IsRefusedBy, IsSourceRefused}
 
 abbrev OnlyReads : List ℕ → List Token → Result Program SyntaxError → Type 0
 OnlyReads text given result = (more : ℕ) (program : PlainProgram) → SpellsProgram more program (words text given) → IsReadWithin ((more ≤ 80) × ProgramHasFew program) seen_program program result

@@ -1,4 +1,4 @@
-use Rattle.p4all_top.proofs.AnswerLaws.{target_found, no_target_found}
+use Rattle.p4all_top.proofs.AnswerLaws.{no_target_found}
 use Rattle.p4all_top.proofs.size_command.read_target.Goals as goal
 
 pub returns-in-Ok-None-target_of-clause-found : goal.returns-in-Ok-None-target_of-clause-found
