@@ -1,50 +1,6 @@
-pub mod First
-pub mod TypedLaws
-mod Rows
-pub mod ConflictLaws
-pub mod WholeLaws
-pub mod UnmetLaws
-pub mod TypingRows
-pub mod TypingDetails
-pub mod TypedFacts
-pub mod TypedNames
-pub mod TypedTables
-pub mod TypedStays
-pub mod TypedHeaders
-pub mod TypedRegisters
-pub mod TypedWidths
-pub mod TypedOperands
-pub mod TypedSides
-pub mod TypedSymbols
-pub mod PlaceLaws
-pub mod EntryLaws
-pub mod SlotLaws
-pub mod CopyLaws
-pub mod VectorLaws
-pub mod SameLaws
-pub mod GivenLaws
-pub mod WriteLaws
-pub mod LastWithLaws
-pub mod LinkedLaws
-pub mod RegisterLaws
-pub mod ChainWalk
-pub mod PositionLaws
-pub mod KeyLaws
-pub mod KeptLaws
-pub mod KeptPuts
-pub mod LookUpLaws
-pub mod HashLaws
-pub mod FindLaws
-pub mod TakenLaws
-pub mod ParserEndLaws
-pub mod UnitLists
-pub mod Depends
-pub mod Footprints
-pub mod EachUnit
-pub mod Exchange
-pub mod SamePieces
-pub mod KeptMeaning
-pub mod InstanceRuns
-pub mod TypedPremises
-pub mod LiveInstances
-pub mod PieceCounts
+-- What each form of expression and statement shows, one equation a form.
+pub mod SeenLaws
+-- Rules, demands and the first that is broken.
+pub mod Typing
+-- Vectors, registers and the index of registers.
+pub mod Containers

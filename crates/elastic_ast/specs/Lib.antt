@@ -1,66 +1,16 @@
+-- The tree of a program, what it shows, and its operators. Every definition below is stated on the tree.
 pub mod Tree
 pub mod Seen
-pub mod SeenLaws
-pub mod Scope
-pub mod Demand
-pub mod AskedOfNames
-pub mod AskedInExpressions
-pub mod AskedInStatements
-pub mod NamedRegisters
-pub mod Conflicts
-pub mod AskedInLocals
-pub mod ParserLoops
-pub mod Asked
-pub mod Typed
-pub mod Counted
-pub mod Sums
-pub mod Places
-pub mod Spotted
-pub mod Vectors
-pub mod Slots
-pub mod LastWith
-pub mod Linked
-pub mod Fnv
-pub mod RegisterLists
-pub mod KeyHash
-pub mod BitWords
-pub mod KeptRegisters
-pub mod Operators
-pub mod LookUps
-pub mod Types
-pub mod Memory
-pub mod Values
-pub mod Matches
-pub mod Written
+pub mod OperatorSorts
+-- What names, types and rules a program has to keep to.
+pub mod Typing
+-- What the sizes of a program are worth, in its assume clauses and its utility.
+pub mod Sizes
+-- What expressions and statements do at a memory.
 pub mod Meaning
-pub mod Locations
-pub mod PacketBits
-pub mod Parts
-pub mod Taken
-pub mod TakenLocations
-pub mod ParserEnds
-pub mod Given
+-- What becomes of a packet: what the parser takes, and what the deparser gives.
 pub mod Packets
-pub mod WorkedValues
-pub mod WorkedProgram
-pub mod WorkedPackets
-pub mod WorkedSources
-pub mod PlainUnits
-pub mod SeenUnits
-pub mod Cuts
-pub mod Reach
-pub mod Costs
-pub mod UnitsOf
-pub mod Instances
-pub mod CutInstances
-pub mod Order
-pub mod Work
-pub mod FlatNames
-pub mod WorkedUnits
-pub mod Footprints
-pub mod Exchange
-pub mod Unnested
-pub mod CutMeaning
-pub mod WorkedTyping
-pub mod LiveInstances
-pub mod PieceCounts
+-- How the body of a control is cut into units of work, and what these read, write and cost.
+pub mod Units
+-- What the containers of a running program hold: vectors and registers.
+pub mod Containers

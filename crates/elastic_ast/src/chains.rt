@@ -1,7 +1,7 @@
 //! An index over a list of hashes, by which things with a key are found in expected constant time and without memory.
 
 ghost use Rattle.std.specs.Prelude.{◌≡◌, ◌<◌, [], ◌∷◌, ◌++◌, length, take, slice_index, OnOk, OnErr};
-ghost use Rattle.elastic_ast.specs.LastWith.{last_with};
+ghost use Rattle.elastic_ast.specs.Containers.LastWith.{last_with};
 
 use std::alloc::{AllocError, Global};
 use std::collections::HashMap;
@@ -30,11 +30,11 @@ impl Model for Chains {
 
     ghost Value = { List ℕ };
 
-    ghost use Rattle.elastic_ast.specs.Linked.{hashes, Linked};
+    ghost use Rattle.elastic_ast.specs.Containers.Linked.{hashes, Linked};
 
     ghost view = { λ chains. hashes chains.links.items };
 
-    ghost invariant = { λ chains. Linked (λ hash. get nat_eq chains.heads hash) chains.links.items };
+    ghost invariant = { λ chain. Linked (λ hash. get nat_eq chain.heads hash) chain.links.items };
 }
 
 impl Chains {
@@ -90,39 +90,5 @@ impl Chains {
             Some(before) => Some(before as usize),
             None => None,
         }
-    }
-}
-
-#[cfg(test)]
-mod tests {
-    use super::*;
-    use std::process::Abort;
-    use std::test::Fail;
-
-    /// The places that the index tells of a hash, from the last one down, and then None. At most as many as `want` has.
-    fn told(rt: &impl Abort, chains: &Chains, hash: u64, want: &[Option<usize>]) {
-        let mut next = chains.last(hash);
-        for place in want {
-            assert_eq!(rt; next, *place, "{hash}");
-            next = match next {
-                Some(place) if place < chains.len() => chains.before(place),
-                _ => None,
-            };
-        }
-    }
-
-    #[test]
-    fn the_places_of_a_hash_come_from_the_last_down(rt: HostRuntime) -> Result<(), Fail> {
-        let mut chains = Chains::new(rt.alloc());
-        assert_eq!(rt; chains.last(7), None);
-        for hash in [7, 0, 7, u64::MAX, 0, 7] {
-            chains.push(hash)?;
-        }
-        assert_eq!(rt; chains.len(), 6);
-        told(&rt, &chains, 7, &[Some(5), Some(2), Some(0), None]);
-        told(&rt, &chains, 0, &[Some(4), Some(1), None]);
-        told(&rt, &chains, u64::MAX, &[Some(3), None]);
-        told(&rt, &chains, 8, &[None]);
-        Ok(())
     }
 }

@@ -2,7 +2,7 @@
 
 ghost use Rattle.std.specs.Prelude.{◌≡◌};
 ghost use Rattle.std.specs.Int.{to_le_bytes, w64};
-ghost use Rattle.elastic_ast.specs.Fnv.{fnv, fnv_step};
+ghost use Rattle.elastic_ast.specs.Containers.Fnv.{fnv, fnv_step};
 
 /// The hash of a key with no parts: the offset of FNV-1a of 64 bits.
 pub const HASH_START: u64 = 0xcbf2_9ce4_8422_2325;
@@ -33,26 +33,4 @@ pub fn hash_number(state: u64, number: u64) -> u64
     ensures { result ≡ fnv state (to_le_bytes w64 number) }
 {
     hash_bytes(state, &number.to_le_bytes())
-}
-
-#[cfg(test)]
-mod tests {
-    use super::*;
-
-    #[test]
-    fn the_hashes_of_published_vectors(rt: HostRuntime) {
-        // vectors that the authors of the hash publish for FNV-1a of 64 bits
-        for (text, want) in [
-            ("", 0xcbf2_9ce4_8422_2325),
-            ("a", 0xaf63_dc4c_8601_ec8c),
-            ("b", 0xaf63_df4c_8601_f1a5),
-            ("foobar", 0x8594_4171_f739_67e8),
-        ] {
-            assert_eq!(rt; hash_bytes(HASH_START, text.as_bytes()), want, "{text}");
-        }
-        assert_eq!(rt;
-            hash_number(HASH_START, 0x7261_626f_6f66),
-            hash_bytes(HASH_START, b"foobar\0\0")
-        );
-    }
 }

@@ -1,14 +1,14 @@
 //! The values of a vector, a slot each.
 
 ghost use Rattle.std.specs.Prelude.{◌≡◌, ◌<◌, ◌≢◌, ◌↔◌, ℕ, [], IsTrue, MatchOption, length, slice_index_or, slice_set};
-ghost use Rattle.elastic_ast.specs.Places.{place};
-ghost use Rattle.elastic_ast.specs.Slots.{slot_place, entries, places, hashes_of};
-ghost use Rattle.elastic_ast.specs.Spotted.{spotted};
-ghost use Rattle.elastic_ast.specs.BitWords.{word};
+ghost use Rattle.elastic_ast.specs.Containers.LocationPlaces.{place};
+ghost use Rattle.elastic_ast.specs.Containers.Slots.{slot_place, entries, places, hashes_of, IsSlotAt};
+ghost use Rattle.elastic_ast.specs.Containers.LocationRefs.{seen_ref};
+ghost use Rattle.elastic_ast.specs.Containers.BitWords.{word};
 
 use crate::chains::Chains;
 use crate::flat::Location;
-use crate::spot::{Spot, parts};
+use crate::location_ref::{LocationRef, parts};
 use elx_bits::Bits;
 
 /// The value of a location at an index.
@@ -21,19 +21,22 @@ pub struct Slot {
 
 impl Slot {
     /// Whether the slot is that of a location and an index.
-    pub fn is_at(&self, spot: &Spot, index: Option<u32>) -> bool
-        ensures { IsTrue result ↔ (slot_place self.now ≡ place (spotted spot.now) index) }
+    pub fn is_at(&self, spot: &LocationRef, index: Option<u32>) -> bool
+        ensures { IsTrue result ↔ (slot_place self.now ≡ place (seen_ref spot.now) index) }
     {
         self.index == index && parts(&self.at).same(spot)
     }
 }
 
 /// The number of the slot of a location and an index, by the hashes of the slots.
-pub fn find(slots: &[Slot], chains: &Chains, spot: &Spot, index: Option<u32>) -> Option<usize>
+pub fn find(
+    slots: &[Slot],
+    chains: &Chains,
+    spot: &LocationRef,
+    index: Option<u32>,
+) -> Option<usize>
     requires { chains.now ≡ hashes_of slots.now }
-    ensures { let known = places (entries slots.now) in let wanted = place (spotted spot.now) index in
-        MatchOption result ((k : ℕ) → k < length known → slice_index_or known k [] ≢ wanted)
-        (λ k. (k < length known) × (slice_index_or known k [] ≡ wanted)) }
+    ensures { IsSlotAt (places (entries slots.now)) (place (seen_ref spot.now) index) result }
 {
     let mut next = chains.last(spot.hash(index));
     'places: while let Some(k) = next {

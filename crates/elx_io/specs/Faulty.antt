@@ -1,34 +1,55 @@
--- A shelf or a sink in memory whose calls fail by plan: its content, the numbers of the calls that are to fail, the
--- calls made so far and the faults so far. This project's own.
+-- A shelf and a sink in memory whose calls fail by plan: their content, the numbers of the calls that are to fail, how many
+-- calls were made and how many faults there were, and of the shelf the calls themselves. This project's own.
 use Rattle.std.specs.Prelude.{◌≡◌, ◌⊎◌, ℕ, List, refl, Contains, None}
 use Rattle.std.specs.Coded.{Coded, code_by, coded×, coded_ℕ, coded_list}
-use Rattle.std.specs.FinMap.{get}
+use Rattle.std.specs.FinMap as map
+use Rattle.elx_io.specs.Call.{Call, calls_code}
 use Rattle.elx_io.specs.Counts.{counted}
 use Rattle.elx_io.specs.Files.{Files}
 
-pub record Faulty (Content : Type 0) : Type 0 where
-  pub content : Content
+pub record FaultyShelf : Type 0 where
+  pub content : Files
+  pub failing : List ℕ
+  pub calls : ℕ
+  pub faults : ℕ
+  pub told : List Call
+
+pub record FaultySink : Type 0 where
+  pub content : List ℕ
   pub failing : List ℕ
   pub calls : ℕ
   pub faults : ℕ
 
--- it is stored as the tuple of its fields
-abbrev pub faulty_code : {Content : Type 0} → Coded Content → Coded (Faulty Content)
-faulty_code {Content} content =
-    code_by (Content × (List ℕ × (ℕ × ℕ))) (coded× content (coded× (coded_list coded_ℕ) (coded× coded_ℕ coded_ℕ)))
+-- they are stored as the tuples of their fields
+abbrev pub shelf_code : Coded FaultyShelf
+shelf_code =
+    code_by (Files × (List ℕ × (ℕ × (ℕ × List Call))))
+    (coded× (map.code (coded_list coded_ℕ) (coded_list coded_ℕ)) (coded× (coded_list coded_ℕ) (coded× coded_ℕ (coded× coded_ℕ calls_code))))
+    (λ it. (it.content, (it.failing, (it.calls, (it.faults, it.told)))))
+    (λ p. record { content = p.0; failing = p.1.0; calls = p.1.1.0; faults = p.1.1.1.0; told = p.1.1.1.1 }) (λ _. refl)
+
+abbrev pub sink_code : Coded FaultySink
+sink_code =
+    code_by (List ℕ × (List ℕ × (ℕ × ℕ))) (coded× (coded_list coded_ℕ) (coded× (coded_list coded_ℕ) (coded× coded_ℕ coded_ℕ)))
     (λ it. (it.content, (it.failing, (it.calls, it.faults))))
     (λ p. record { content = p.0; failing = p.1.0; calls = p.1.1.0; faults = p.1.1.1 }) (λ _. refl)
 
--- the next call is one that is to fail; calls are numbered from 1
-abbrev pub FailsNext : {Content : Type 0} → Faulty Content → Type 0
-FailsNext it = Contains it.failing (counted it.calls)
+-- of the listed calls the next one is to fail, after so many; calls are numbered from 1
+abbrev pub FailsNext : List ℕ → ℕ → Type 0
+FailsNext failing calls = Contains failing (counted calls)
 
--- there is no file of that name
-abbrev pub Lacks : Files → List ℕ → Type 0
-Lacks files name = get files name ≡ None
+-- the next call, a read of a name, is to fail: it is listed, or there is no file of that name
+abbrev pub ReadFails : List ℕ → FaultyShelf → Type 0
+ReadFails name it = FailsNext it.failing it.calls ⊎ (map.get it.content name ≡ None)
 
--- one read of a name leads from one state to the other: one call more was made, and a fault came only where that call was to
--- fail or the file is missing
-pub record IsAfterRead (before : Faulty Files) (name : List ℕ) (after : Faulty Files) : Type 0 where
-  pub calls : after.calls ≡ counted before.calls
-  pub faults : (after.faults ≡ before.faults) ⊎ (FailsNext before ⊎ Lacks before.content name)
+-- the next call, a write, is to fail
+abbrev pub WriteFails : FaultyShelf → Type 0
+WriteFails it = FailsNext it.failing it.calls
+
+-- the next call of the sink is to fail
+abbrev pub PutFails : FaultySink → Type 0
+PutFails it = FailsNext it.failing it.calls
+
+-- the shelf with one more file
+abbrev pub with_file : List ℕ → List ℕ → FaultyShelf → FaultyShelf
+with_file name bytes it = record it { content = map.insert it.content name bytes }

@@ -1,4 +1,6 @@
 pub mod Appends
+pub mod Call
+pub mod CallOf
 pub mod Counts
 pub mod Faulty
 pub mod Files

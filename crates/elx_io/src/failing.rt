@@ -1,5 +1,6 @@
-ghost use Rattle.std.specs.Prelude.{◌≡◌, ◌↔◌, ◌≤◌, IsTrue, Contains};
-ghost use Rattle.elx_io.specs.Counts.{counted};
+ghost use Rattle.std.specs.Prelude.{◌≡◌, ◌↔◌, true, IsTrue};
+ghost use Rattle.elx_io.specs.Counts.{FaultCounts, counted};
+ghost use Rattle.elx_io.specs.Faulty.{FailsNext};
 
 use elx_bits::Items;
 
@@ -25,23 +26,26 @@ impl FailingCalls {
         }
     }
 
-    /// Counts one call, and says whether it is to fail.
+    /// Counts one call, and says whether it is to fail; then one fault is counted too.
     pub fn fails_now(&mut self) -> bool
-        ensures fails { IsTrue result ↔ Contains self.old.listed (counted self.old.made) }
+        ensures fails { IsTrue result ↔ FailsNext self.old.listed self.old.made }
         ensures listed { self.new.listed ≡ self.old.listed }
         ensures made { self.new.made ≡ counted self.old.made }
-        ensures faults { self.new.faults ≡ self.old.faults }
+        ensures faults { FaultCounts self.old.faults self.new.faults result }
     {
         self.made = self.made.saturating_add(1);
-        self.listed.as_slice().contains(&self.made)
+        let fails = self.listed.as_slice().contains(&self.made);
+        if fails {
+            self.count_fault();
+        }
+        fails
     }
 
     /// Counts one fault.
     pub fn count_fault(&mut self)
         ensures listed { self.new.listed ≡ self.old.listed }
         ensures made { self.new.made ≡ self.old.made }
-        ensures faults { self.new.faults ≡ counted self.old.faults }
-        ensures later { self.old.faults ≤ self.new.faults }
+        ensures faults { FaultCounts self.old.faults self.new.faults true }
     {
         self.faults = self.faults.saturating_add(1);
     }

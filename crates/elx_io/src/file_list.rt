@@ -77,8 +77,5 @@ pub fn first_bytes(alloc: Global, bytes: &[u8], most: u64) -> Result<Items<u8>, 
     ensures refused { result ≢ Err ShelfErr.Failed }
 {
     let count = bytes.len().min(most as usize + 1);
-    let Ok(front) = Vec::from_slice(alloc, &bytes[..count]) else {
-        return Err(ShelfErr::Memory);
-    };
-    Ok(Items::from_vec(front))
+    Ok(Items::from_vec(Vec::from_slice(alloc, &bytes[..count])?))
 }

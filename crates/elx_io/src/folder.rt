@@ -1,39 +1,18 @@
-ghost use Rattle.std.specs.Prelude.{◌≡◌, None};
+ghost use Rattle.std.specs.Prelude.{None};
 
+use crate::edge::Edge;
 use crate::shelf::{Shelf, ShelfErr};
 use crate::whole::{read_front, write_whole};
 use elx_bits::Items;
 use std::alloc::Global;
 use std::fs;
-use std::marker::Model;
 use std::rt::Files;
 
-/// The files of the folder that the program runs in. It tells no content. A file that can't be opened, read or
+/// The files of the folder that the program runs in. It tells no content and no calls. A file that can't be opened, read or
 /// written whole is a fault, and so is a read or a write that a signal interrupts a million times over.
-#[derive(Drop)]
-pub struct FolderShelf<'a, R> {
-    rt: &'a R,
-    faults: u64,
-}
+pub type FolderShelf<'a, R> = Edge<'a, R>;
 
-impl<'a, R> Model for FolderShelf<'a, R> {
-    ghost use Rattle.std.specs.Prelude.{ℕ};
-
-    ghost Value = { ℕ };
-
-    ghost view = { λ shelf. shelf.faults };
-}
-
-impl<'a, R: Files> FolderShelf<'a, R> {
-    /// A shelf over the files of a runtime, with no fault counted. It takes no memory.
-    pub fn new(rt: &'a R) -> FolderShelf<'a, R>
-        ensures { result ≡ 0 }
-    {
-        FolderShelf { rt, faults: 0 }
-    }
-}
-
-impl<R: Files> Shelf for FolderShelf<'_, R> {
+impl<R: Files> Shelf for Edge<'_, R> {
     ghost holds = { λ _. None };
 
     ghost faults = { λ count. count };
@@ -44,7 +23,7 @@ impl<R: Files> Shelf for FolderShelf<'_, R> {
             Err(_) => Err(ShelfErr::Failed),
         };
         if let Err(ShelfErr::Failed) = result {
-            self.faults = self.faults.saturating_add(1);
+            self.count_fault();
         }
         result
     }
@@ -55,7 +34,7 @@ impl<R: Files> Shelf for FolderShelf<'_, R> {
         {
             return Ok(());
         }
-        self.faults = self.faults.saturating_add(1);
+        self.count_fault();
         Err(ShelfErr::Failed)
     }
 }

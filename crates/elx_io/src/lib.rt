@@ -1,6 +1,8 @@
 //! The outside as the compiler sees it: shelves of named files, a sink of bytes, and a builder of lines of text.
 #![tactic(auto)]
 
+mod call_log;
+mod edge;
 mod failing;
 mod file_list;
 mod folder;

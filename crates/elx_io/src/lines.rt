@@ -1,4 +1,4 @@
-ghost use Rattle.std.specs.Prelude.{◌≡◌, [], OnOk, OnErr, if◌then◌else◌};
+ghost use Rattle.std.specs.Prelude.{◌≡◌, [], ◌++◌, OnOk, OnErr, if◌then◌else◌};
 ghost use Rattle.elx_io.specs.Lines.{is_line_start, with_end, with_number, with_word};
 
 use itoa::Buffer;
@@ -53,6 +53,14 @@ impl Lines {
     {
         self.text.push(b'\n')?;
         Ok(())
+    }
+
+    /// Appends a piece as it is. For want of memory the text stays.
+    pub(crate) fn append(&mut self, piece: &[u8]) -> Result<(), AllocError>
+        ensures ok { OnOk result (self.new ≡ self.old ++ piece.now) }
+        ensures err { OnErr result (self.new ≡ self.old) }
+    {
+        self.text.extend_from_slice(piece)
     }
 
     /// The text so far.

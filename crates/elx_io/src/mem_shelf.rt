@@ -1,9 +1,12 @@
-ghost use Rattle.std.specs.Prelude.{◌≡◌, ◌↔◌, ◌⊎◌, ◌+◌, ◌≤◌, ◌^◌, [], Some, option_map, IfOk, OnOk, OnErr, IsErrOf, length, take};
+ghost use Rattle.std.specs.Prelude.{◌≡◌, ◌↔◌, ◌+◌, ◌≤◌, ◌^◌, [], ◌∷◌, ◌++◌, Some, option_map, IfOk, OnOk, OnErr, IsErrOf, length};
 ghost use Rattle.std.specs.FinMap as map;
-ghost use Rattle.elx_io.specs.Counts.{ShelfCounts, counted};
-ghost use Rattle.elx_io.specs.Faulty.{FailsNext, IsAfterRead, Lacks};
-ghost use Rattle.elx_io.specs.Files.{SameOthers, bytes_at};
+ghost use Rattle.std.specs.FinMap.{insert};
+ghost use Rattle.elx_io.specs.Call.{Read, Write};
+ghost use Rattle.elx_io.specs.Counts.{ShelfCountsEach, counted};
+ghost use Rattle.elx_io.specs.Faulty.{ReadFails, WriteFails, with_file};
+ghost use Rattle.elx_io.specs.Files.{IsReadOf};
 
+use crate::call_log::{CallLog, Made};
 use crate::failing::FailingCalls;
 use crate::file_list::{FileList, first_bytes};
 use crate::shelf::{Shelf, ShelfErr};
@@ -12,28 +15,27 @@ use std::alloc::{AllocError, Global};
 use std::marker::Model;
 
 /// A shelf in memory whose calls fail at given numbers, and whose reads of a name that it lacks fail too. A contract
-/// sees its files, those numbers, how many calls were made and how many faults there were.
+/// sees its files, those numbers, how many calls were made, how many faults there were, and the calls.
 #[derive(Debug, Drop)]
 pub struct MemShelf {
     files: FileList,
     calls: FailingCalls,
+    log: CallLog,
 }
 
 impl Model for MemShelf {
-    ghost use Rattle.std.specs.Coded.{coded_list, coded_ℕ};
-    ghost use Rattle.std.specs.FinMap as map;
-    ghost use Rattle.elx_io.specs.Faulty.{Faulty, faulty_code};
-    ghost use Rattle.elx_io.specs.Files.{Files};
+    ghost use Rattle.elx_io.specs.Faulty.{FaultyShelf, shelf_code};
 
-    ghost Value = { Faulty Files };
+    ghost Value = { FaultyShelf };
 
-    ghost coded = { faulty_code (map.code (coded_list coded_ℕ) (coded_list coded_ℕ)) };
+    ghost coded = { shelf_code };
 
     ghost view = { λ shelf. record {
       content = shelf.files;
       failing = shelf.calls.listed;
       calls = shelf.calls.made;
       faults = shelf.calls.faults;
+      told = shelf.log.calls;
     } };
 }
 
@@ -44,16 +46,18 @@ impl MemShelf {
         ensures failing { result.failing ≡ fails }
         ensures calls { result.calls ≡ 0 }
         ensures faults { result.faults ≡ 0 }
+        ensures told { result.told ≡ [] }
     {
         MemShelf {
             files: FileList::new(alloc),
             calls: FailingCalls::new(fails),
+            log: CallLog::new(),
         }
     }
 
     /// Sets one file. It isn't counted as a call. For want of memory the shelf stays.
     pub fn put_file(&mut self, name: &str, bytes: &[u8]) -> Result<(), AllocError>
-        ensures ok { OnOk result (self.new ≡ record self.old { content = map.insert self.old.content name.now bytes.now }) }
+        ensures ok { OnOk result (self.new ≡ with_file name.now bytes.now self.old) }
         ensures err { OnErr result (self.new ≡ self.old) }
     {
         self.files.set(name, bytes)
@@ -72,23 +76,22 @@ impl Shelf for MemShelf {
 
     ghost faults = { λ shelf. shelf.faults };
 
-    ghost read_leads = { IsAfterRead };
+    ghost told = { λ shelf. Some shelf.told };
 
     /// `Failed` comes at the listed calls and where the shelf lacks the name.
     fn read(&mut self, alloc: Global, name: &str, most: u64) -> Result<Items<u8>, ShelfErr>
         requires { most ≤ 2 ^ 62 }
-        ensures bytes { IfOk result (λ bytes. bytes ≡ take (most + 1) (bytes_at self.old.content name.now)) }
+        ensures bytes { IfOk result (IsReadOf (Some self.old.content) name.now most) }
         ensures length { IfOk result (λ bytes. length bytes ≤ most + 1) }
         ensures content { self.new.content ≡ self.old.content }
-        ensures counts { ShelfCounts self.old.faults self.new.faults result }
-        ensures failed { IsErrOf result ShelfErr.Failed ↔ (FailsNext self.old ⊎ Lacks self.old.content name.now) }
-        ensures fault { IsErrOf result ShelfErr.Failed → self.new.faults ≡ counted self.old.faults }
+        ensures counts { ShelfCountsEach self.old.faults self.new.faults result }
+        ensures failed { IsErrOf result ShelfErr.Failed ↔ ReadFails name.now self.old }
         ensures calls { self.new.calls ≡ counted self.old.calls }
         ensures failing { self.new.failing ≡ self.old.failing }
-        ensures leads { IsAfterRead self.old name.now self.new }
+        ensures told { self.new.told ≡ self.old.told ++ Read name.now ∷ [] }
     {
+        self.log = self.log.then(&Made::Read(name));
         if self.calls.fails_now() {
-            self.calls.count_fault();
             return Err(ShelfErr::Failed);
         }
         match self.files.find(name) {
@@ -102,19 +105,19 @@ impl Shelf for MemShelf {
 
     /// `Failed` comes at the listed calls. After a refusal the files are as before.
     fn write(&mut self, name: &str, bytes: &[u8]) -> Result<(), ShelfErr>
-        ensures ok { OnOk result (self.new.content ≡ map.insert self.old.content name.now bytes.now) }
+        ensures ok { OnOk result (self.new.content ≡ insert self.old.content name.now bytes.now) }
         ensures err { OnErr result (self.new.content ≡ self.old.content) }
-        ensures counts { ShelfCounts self.old.faults self.new.faults result }
-        ensures failed { IsErrOf result ShelfErr.Failed ↔ FailsNext self.old }
-        ensures fault { IsErrOf result ShelfErr.Failed → self.new.faults ≡ counted self.old.faults }
+        ensures counts { ShelfCountsEach self.old.faults self.new.faults result }
+        ensures failed { IsErrOf result ShelfErr.Failed ↔ WriteFails self.old }
         ensures calls { self.new.calls ≡ counted self.old.calls }
         ensures failing { self.new.failing ≡ self.old.failing }
+        ensures told { self.new.told ≡ self.old.told ++ Write name.now bytes.now ∷ [] }
     {
+        self.log = self.log.then(&Made::Write(name, bytes));
         if self.calls.fails_now() {
-            self.calls.count_fault();
             return Err(ShelfErr::Failed);
         }
-        self.files.set(name, bytes).map_err(|_| ShelfErr::Memory)
+        Ok(self.files.set(name, bytes)?)
     }
 }
 

@@ -1,9 +1,9 @@
-ghost use Rattle.std.specs.Prelude.{◌≡◌, ◌↔◌, ◌++◌, [], Some, option_map, OnOk, OnErr, IsErrOf};
-ghost use Rattle.elx_io.specs.Appends.{AppendsFront};
-ghost use Rattle.elx_io.specs.Counts.{SinkCounts, counted};
-ghost use Rattle.elx_io.specs.Faulty.{FailsNext};
+ghost use Rattle.std.specs.Prelude.{◌≡◌, ◌↔◌, ◌++◌, [], Some, OnOk, OnErr, IsErrOf};
+ghost use Rattle.elx_io.specs.Counts.{SinkCountsEach, counted};
+ghost use Rattle.elx_io.specs.Faulty.{PutFails};
 
 use crate::failing::FailingCalls;
+use crate::lines::Lines;
 use crate::sink::{Sink, SinkErr};
 use elx_bits::Items;
 use std::alloc::Global;
@@ -13,21 +13,19 @@ use std::marker::Model;
 /// made and how many faults there were.
 #[derive(Debug, Drop)]
 pub struct MemSink {
-    bytes: Vec<u8>,
+    text: Lines,
     calls: FailingCalls,
 }
 
 impl Model for MemSink {
-    ghost use Rattle.std.specs.Prelude.{List, ℕ};
-    ghost use Rattle.std.specs.Coded.{coded_list, coded_ℕ};
-    ghost use Rattle.elx_io.specs.Faulty.{Faulty, faulty_code};
+    ghost use Rattle.elx_io.specs.Faulty.{FaultySink, sink_code};
 
-    ghost Value = { Faulty (List ℕ) };
+    ghost Value = { FaultySink };
 
-    ghost coded = { faulty_code (coded_list coded_ℕ) };
+    ghost coded = { sink_code };
 
     ghost view = { λ sink. record {
-      content = sink.bytes.items;
+      content = sink.text;
       failing = sink.calls.listed;
       calls = sink.calls.made;
       faults = sink.calls.faults;
@@ -43,7 +41,7 @@ impl MemSink {
         ensures faults { result.faults ≡ 0 }
     {
         MemSink {
-            bytes: Vec::new(alloc),
+            text: Lines::new(alloc),
             calls: FailingCalls::new(fails),
         }
     }
@@ -52,7 +50,7 @@ impl MemSink {
     pub fn bytes(&self) -> &[u8]
         ensures { result.now ≡ self.now.content }
     {
-        self.bytes.as_slice()
+        self.text.bytes()
     }
 }
 
@@ -65,19 +63,15 @@ impl Sink for MemSink {
     fn put(&mut self, bytes: &[u8]) -> Result<(), SinkErr>
         ensures ok { OnOk result (self.new.content ≡ self.old.content ++ bytes.now) }
         ensures err { OnErr result (self.new.content ≡ self.old.content) }
-        ensures counts { SinkCounts self.old.faults self.new.faults result }
-        ensures failed { IsErrOf result SinkErr.Failed ↔ FailsNext self.old }
-        ensures fault { IsErrOf result SinkErr.Failed → self.new.faults ≡ counted self.old.faults }
+        ensures counts { SinkCountsEach self.old.faults self.new.faults result }
+        ensures failed { IsErrOf result SinkErr.Failed ↔ PutFails self.old }
         ensures calls { self.new.calls ≡ counted self.old.calls }
         ensures failing { self.new.failing ≡ self.old.failing }
     {
         if self.calls.fails_now() {
-            self.calls.count_fault();
             return Err(SinkErr::Failed);
         }
-        self.bytes
-            .extend_from_slice(bytes)
-            .map_err(|_| SinkErr::Memory)
+        self.text.put(bytes)
     }
 }
 

@@ -1,6 +1,6 @@
-ghost use Rattle.std.specs.Prelude.{◌≡◌, ◌≢◌, ◌+◌, ◌≤◌, ◌^◌, Some, Err, option_map, IfOk, OnOk, OnErr, length, take};
+ghost use Rattle.std.specs.Prelude.{◌≡◌, ◌≢◌, ◌+◌, ◌≤◌, ◌^◌, Some, Err, option_map, IfOk, OnOk, OnErr, length};
 ghost use Rattle.std.specs.FinMap as map;
-ghost use Rattle.elx_io.specs.Files.{bytes_at};
+ghost use Rattle.elx_io.specs.Files.{IsReadOf};
 
 use crate::file_list::{FileList, first_bytes};
 use crate::shelf::{Shelf, ShelfErr};
@@ -61,7 +61,7 @@ impl Shelf for SafeShelf {
     /// The one refusal is `Memory`.
     fn read(&mut self, alloc: Global, name: &str, most: u64) -> Result<Items<u8>, ShelfErr>
         requires { most ≤ 2 ^ 62 }
-        ensures bytes { IfOk result (λ bytes. bytes ≡ take (most + 1) (bytes_at self.old name.now)) }
+        ensures bytes { IfOk result (IsReadOf (Some self.old) name.now most) }
         ensures length { IfOk result (λ bytes. length bytes ≤ most + 1) }
         ensures kept { self.new ≡ self.old }
         ensures safe { result ≢ Err ShelfErr.Failed }
@@ -75,7 +75,7 @@ impl Shelf for SafeShelf {
         ensures err { OnErr result (self.new ≡ self.old) }
         ensures safe { result ≢ Err ShelfErr.Failed }
     {
-        self.files.set(name, bytes).map_err(|_| ShelfErr::Memory)
+        Ok(self.files.set(name, bytes)?)
     }
 }
 

@@ -1,42 +1,12 @@
-ghost use Rattle.std.specs.Prelude.{◌≡◌, ◌≢◌, ◌++◌, [], Some, Err, OnOk, OnErr};
+ghost use Rattle.std.specs.Prelude.{◌≡◌, ◌≢◌, ◌++◌, Some, Err, OnOk, OnErr};
 
+use crate::lines::Lines;
 use crate::sink::{Sink, SinkErr};
-use std::alloc::Global;
-use std::marker::Model;
 
-/// A sink in memory that never fails. A contract sees it as its bytes.
-#[derive(Debug, Drop)]
-pub struct SafeSink {
-    bytes: Vec<u8>,
-}
+/// A sink in memory that never fails: a text that pieces are put to.
+pub type SafeSink = Lines;
 
-impl Model for SafeSink {
-    ghost use Rattle.std.specs.Prelude.{List, ℕ};
-
-    ghost Value = { List ℕ };
-
-    ghost view = { λ sink. sink.bytes.items };
-}
-
-impl SafeSink {
-    /// An empty sink. It takes no memory.
-    pub fn new(alloc: Global) -> SafeSink
-        ensures { result ≡ [] }
-    {
-        SafeSink {
-            bytes: Vec::new(alloc),
-        }
-    }
-
-    /// All that was put.
-    pub fn bytes(&self) -> &[u8]
-        ensures { result.now ≡ self.now }
-    {
-        self.bytes.as_slice()
-    }
-}
-
-impl Sink for SafeSink {
+impl Sink for Lines {
     ghost written = { λ bytes. Some bytes };
 
     ghost faults = { λ _. 0 };
@@ -47,9 +17,7 @@ impl Sink for SafeSink {
         ensures err { OnErr result (self.new ≡ self.old) }
         ensures safe { result ≢ Err SinkErr.Failed }
     {
-        self.bytes
-            .extend_from_slice(bytes)
-            .map_err(|_| SinkErr::Memory)
+        Ok(self.append(bytes)?)
     }
 }
 

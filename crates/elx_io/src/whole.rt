@@ -20,15 +20,11 @@ pub fn read_front<F: Read>(file: &mut F, alloc: Global, limit: usize) -> Result<
     let mut piece = [0u8; PIECE];
     while bytes.len() < limit {
         let want = PIECE.min(limit - bytes.len());
-        let Some(count) = read_some(file, &mut piece[..want]) else {
-            return Err(ShelfErr::Failed);
-        };
+        let count = read_some(file, &mut piece[..want]).ok_or(ShelfErr::Failed)?;
         if count == 0 {
             break;
         }
-        if bytes.extend_from_slice(&piece[..count]).is_err() {
-            return Err(ShelfErr::Memory);
-        }
+        bytes.extend_from_slice(&piece[..count])?;
     }
     Ok(Items::from_vec(bytes))
 }

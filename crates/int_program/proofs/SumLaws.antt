@@ -5,7 +5,8 @@ use Rattle.std.proofs.lemmas.List.{at_drop_more}
 use Rattle.std.proofs.Math.Nat.{mul-le-mul_left}
 use Rattle.std.specs.Int.{w128}
 use Rattle.int_program.specs.Sums.{at}
-use Rattle.int_program.specs.Bounds.{least_term, most_term, least_of, most_of, part_least, part_most}
+use Rattle.int_program.specs.declared.bounds.End.{End}
+use Rattle.int_program.specs.Bounds.{least_term, most_term, least_of, part_least, part_end, sum_end}
 use Rattle.int_program.specs.Limits.{part_weight, weight}
 use Rattle.int_program.specs.Tightening.{factor, others}
 use Rattle.int_program.specs.declared.program.Part.{Part}
@@ -57,11 +58,8 @@ pub most_term_down : (by l h : ℤ) → by <ℤ pos 0 → most_term by l h ≡ b
 most_term_down by l h p = ap (λ t. cond t (by *ℤ l) (by *ℤ h)) (int_lt_yes by (pos 0) p)
 
 -- the loop's step
-pub least_more : (ps : List Part) (i : ℕ) (d : Part) (b : IpBox) → i < length ps → least_of (drop i ps) b ≡ part_least (get_or ps i d) b +ℤ least_of (drop (i + 1) ps) b
-least_more ps i d b h = at_drop_more (λ q. least_of q b) ps i d h
-
-pub most_more : (ps : List Part) (i : ℕ) (d : Part) (b : IpBox) → i < length ps → most_of (drop i ps) b ≡ part_most (get_or ps i d) b +ℤ most_of (drop (i + 1) ps) b
-most_more ps i d b h = at_drop_more (λ q. most_of q b) ps i d h
+pub end_more : (which : End) (ps : List Part) (i : ℕ) (d : Part) (b : IpBox) → i < length ps → sum_end which (drop i ps) b ≡ part_end which (get_or ps i d) b +ℤ sum_end which (drop (i + 1) ps) b
+end_more which ps i d b h = at_drop_more (λ q. sum_end which q b) ps i d h
 
 pub weight_more : (ps : List Part) (i : ℕ) (d : Part) (tops : List ℤ) → i < length ps → weight (drop i ps) tops ≡ part_weight (get_or ps i d) tops + weight (drop (i + 1) ps) tops
 weight_more ps i d tops h = at_drop_more (λ q. weight q tops) ps i d h

@@ -1,32 +1,44 @@
 -- The least and the greatest value of a sum of parts over a box; this project's own.
 use Rattle.std.specs.Prelude.{◌≡◌, ℤ, pos, ◌+ℤ◌, ◌*ℤ◌, ◌≤ℤ◌, List, [], ◌∷◌, if◌then◌else◌, int_lt}
+use Rattle.int_program.specs.declared.bounds.End.{End}
+use Rattle.int_program.specs.declared.bounds.End.TheVariants as end
 use Rattle.int_program.specs.declared.program.Part.{Part}
 use Rattle.int_program.specs.declared.program.IpBox.{IpBox}
 use Rattle.int_program.specs.Sums.{at, sum_at}
 use Rattle.int_program.specs.Boxes.{InBox}
 
--- the least and the greatest value of a coefficient times a number from low to high
-abbrev pub least_term : ℤ → ℤ → ℤ → ℤ
-least_term by low high = if int_lt by (pos 0) then by *ℤ high else by *ℤ low
+-- the least or the greatest value of a coefficient times a number from low to high
+abbrev pub term_end : End → ℤ → ℤ → ℤ → ℤ
+term_end end.Least by low high = if int_lt by (pos 0) then by *ℤ high else by *ℤ low
+term_end end.Most by low high = if int_lt by (pos 0) then by *ℤ low else by *ℤ high
 
-abbrev pub most_term : ℤ → ℤ → ℤ → ℤ
-most_term by low high = if int_lt by (pos 0) then by *ℤ low else by *ℤ high
-
--- the least and the greatest value of one part over the box
-abbrev pub part_least : Part → IpBox → ℤ
-part_least p b = least_term p.by (at b.low p.var) (at b.high p.var)
-
-abbrev pub part_most : Part → IpBox → ℤ
-part_most p b = most_term p.by (at b.low p.var) (at b.high p.var)
+-- the same of one part over the box
+abbrev pub part_end : End → Part → IpBox → ℤ
+part_end which p b = term_end which p.by (at b.low p.var) (at b.high p.var)
 
 -- the sum of these over the parts
+abbrev pub sum_end : End → List Part → IpBox → ℤ
+sum_end which [] b = pos 0
+sum_end which (p ∷ ps) b = part_end which p b +ℤ sum_end which ps b
+
+abbrev pub least_term : ℤ → ℤ → ℤ → ℤ
+least_term = term_end end.Least
+
+abbrev pub most_term : ℤ → ℤ → ℤ → ℤ
+most_term = term_end end.Most
+
+abbrev pub part_least : Part → IpBox → ℤ
+part_least = part_end end.Least
+
+abbrev pub part_most : Part → IpBox → ℤ
+part_most = part_end end.Most
+
+-- the least and the greatest value of the parts over the box
 abbrev pub least_of : List Part → IpBox → ℤ
-least_of [] b = pos 0
-least_of (p ∷ ps) b = part_least p b +ℤ least_of ps b
+least_of = sum_end end.Least
 
 abbrev pub most_of : List Part → IpBox → ℤ
-most_of [] b = pos 0
-most_of (p ∷ ps) b = part_most p b +ℤ most_of ps b
+most_of = sum_end end.Most
 
 -- a point of the box at which the parts are worth the number
 pub record IsReached (ps : List Part) (b : IpBox) (value : ℤ) : Type 0 where

@@ -11,3 +11,4 @@ pub mod Accepts
 pub mod Cases
 pub mod Counting
 pub mod Fair
+pub mod TreeLaws

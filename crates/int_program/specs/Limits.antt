@@ -4,6 +4,17 @@ use Rattle.int_program.specs.declared.program.Ip.{Ip}
 use Rattle.int_program.specs.declared.program.Part.{Part}
 use Rattle.int_program.specs.Sums.{at}
 
+-- the most variables and rows of a program
+abbrev pub most_variables : ℕ
+most_variables = 100000
+
+abbrev pub most_rows : ℕ
+most_rows = 200000
+
+-- what a row, with what stands beside it, must stay below
+abbrev pub weight_limit : ℕ
+weight_limit = 2 ^ 100
+
 -- how large one part can get: its absolute value times the greater of its variable's top and 1
 abbrev pub part_weight : Part → List ℤ → ℕ
 part_weight p tops = unsigned_abs p.by * max (unsigned_abs (at tops p.var)) 1
@@ -21,12 +32,12 @@ IsRising (p ∷ ps) = All (λ q. p.var < q.var) ps × IsRising ps
 pub record AreSmall (ps : List Part) (beside : ℤ) (tops : List ℤ) : Type 0 where
   pub vars : All (λ p. p.var < length tops) ps
   pub rising : IsRising ps
-  pub small : weight ps tops + unsigned_abs beside < 2 ^ 100
+  pub small : weight ps tops + unsigned_abs beside < weight_limit
 
 -- the limits of a program
 pub record IsInLimits (ip : Ip) : Type 0 where
-  pub variables : length ip.tops ≤ 100000
-  pub row_count : length ip.rows ≤ 200000
+  pub variables : length ip.tops ≤ most_variables
+  pub row_count : length ip.rows ≤ most_rows
   pub tops : All (λ top. pos 0 ≤ℤ top) ip.tops
   pub rows : All (λ row. AreSmall row.parts row.most ip.tops) ip.rows
   pub goal : AreSmall ip.goal ip.base ip.tops

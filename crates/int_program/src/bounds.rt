@@ -2,8 +2,8 @@
 
 ghost use Rattle.std.specs.Prelude.{◌≡◌, ℕ, ℤ, pos, ◌*◌, ◌^◌, ◌<◌, ◌≤◌, ◌≤ℤ◌, length, unsigned_abs, max, All, IfOk};
 ghost use Rattle.int_program.specs.Boxes.{IsNonempty, IsFromZero, root_of};
-ghost use Rattle.int_program.specs.Bounds.{least_of, most_of, least_term, most_term, part_least, part_most, IsReached, NoneBelow, NoneAbove};
-ghost use Rattle.int_program.specs.Limits.{part_weight, weight, AreSmall};
+ghost use Rattle.int_program.specs.Bounds.{least_of, most_of, term_end as term_end_of, part_end as part_end_of, sum_end as sum_end_of, IsReached, NoneBelow, NoneAbove};
+ghost use Rattle.int_program.specs.Limits.{part_weight, weight, AreSmall, weight_limit};
 
 use crate::program::{Ip, IpBox, Part, Row};
 use elx_bits::Items;
@@ -22,46 +22,57 @@ pub fn root(alloc: Global, ip: &Ip) -> Result<IpBox, AllocError>
     Ok(IpBox { low, high })
 }
 
-/// The least value of a coefficient times a number from `low` to `high`.
-fn least_end(by: i128, low: i128, high: i128) -> i128
-    requires from_zero { pos 0 ≤ℤ low }
-    requires nonempty { low ≤ℤ high }
-    requires small { unsigned_abs by * max (unsigned_abs high) 1 < 2 ^ 100 }
-    ensures value { result ≡ least_term by low high }
-    ensures bound { unsigned_abs result ≤ unsigned_abs by * max (unsigned_abs high) 1 }
-{
-    if by < 0 { by * high } else { by * low }
+/// An end of the values of a sum over a box.
+#[derive(Clone, Copy, Debug, PartialEq, Eq)]
+pub(crate) enum End {
+    Least,
+    Most,
 }
 
-/// The least value of one part.
-pub(crate) fn least_part(part: &Part, within: &IpBox) -> i128
+/// The least or the greatest value of a coefficient times a number from `low` to `high`.
+fn term_end(end: End, by: i128, low: i128, high: i128) -> i128
+    requires from_zero { pos 0 ≤ℤ low }
+    requires nonempty { low ≤ℤ high }
+    requires small { unsigned_abs by * max (unsigned_abs high) 1 < weight_limit }
+    ensures value { result ≡ term_end_of end by low high }
+    ensures bound { unsigned_abs result ≤ unsigned_abs by * max (unsigned_abs high) 1 }
+{
+    match end {
+        End::Least => { if by < 0 { by * high } else { by * low } }
+        End::Most => { if by < 0 { by * low } else { by * high } }
+    }
+}
+
+/// The least or the greatest value of one part.
+pub(crate) fn part_end(end: End, part: &Part, within: &IpBox) -> i128
     requires nonempty { IsNonempty within.now }
     requires from_zero { IsFromZero within.now }
     requires var { part.now.var < length within.now.high }
-    requires small { part_weight part.now within.now.high < 2 ^ 100 }
-    ensures value { result ≡ part_least part.now within.now }
+    requires small { part_weight part.now within.now.high < weight_limit }
+    ensures value { result ≡ part_end_of end part.now within.now }
     ensures bound { unsigned_abs result ≤ part_weight part.now within.now.high }
 {
     let var = part.var as usize;
-    least_end(
+    term_end(
+        end,
         part.by,
         within.low.as_slice()[var],
         within.high.as_slice()[var],
     )
 }
 
-/// The least value of the parts.
-fn least_sum(parts: &[Part], within: &IpBox) -> i128
+/// The least or the greatest value of the parts.
+fn sum_end(end: End, parts: &[Part], within: &IpBox) -> i128
     requires nonempty { IsNonempty within.now }
     requires from_zero { IsFromZero within.now }
     requires vars { All (λ p. p.var < length within.now.high) parts.now }
-    requires small { weight parts.now within.now.high < 2 ^ 100 }
-    ensures value { result ≡ least_of parts.now within.now }
+    requires small { weight parts.now within.now.high < weight_limit }
+    ensures value { result ≡ sum_end_of end parts.now within.now }
     ensures bound { unsigned_abs result ≤ weight parts.now within.now.high }
 {
     let mut sum = 0;
     for part in parts {
-        sum += least_part(part, within);
+        sum += part_end(end, part, within);
     }
     sum
 }
@@ -79,51 +90,7 @@ pub fn least(row: &Row, within: &IpBox) -> i128
     ensures none_below { NoneBelow row.now.parts within.now result }
     ensures bound { unsigned_abs result ≤ weight row.now.parts within.now.high }
 {
-    least_sum(row.parts.as_slice(), within)
-}
-
-/// The greatest value of a coefficient times a number from `low` to `high`.
-fn most_end(by: i128, low: i128, high: i128) -> i128
-    requires from_zero { pos 0 ≤ℤ low }
-    requires nonempty { low ≤ℤ high }
-    requires small { unsigned_abs by * max (unsigned_abs high) 1 < 2 ^ 100 }
-    ensures value { result ≡ most_term by low high }
-    ensures bound { unsigned_abs result ≤ unsigned_abs by * max (unsigned_abs high) 1 }
-{
-    if by < 0 { by * low } else { by * high }
-}
-
-/// The greatest value of one part.
-fn most_part(part: &Part, within: &IpBox) -> i128
-    requires nonempty { IsNonempty within.now }
-    requires from_zero { IsFromZero within.now }
-    requires var { part.now.var < length within.now.high }
-    requires small { part_weight part.now within.now.high < 2 ^ 100 }
-    ensures value { result ≡ part_most part.now within.now }
-    ensures bound { unsigned_abs result ≤ part_weight part.now within.now.high }
-{
-    let var = part.var as usize;
-    most_end(
-        part.by,
-        within.low.as_slice()[var],
-        within.high.as_slice()[var],
-    )
-}
-
-/// The greatest value of the parts.
-fn most_sum(parts: &[Part], within: &IpBox) -> i128
-    requires nonempty { IsNonempty within.now }
-    requires from_zero { IsFromZero within.now }
-    requires vars { All (λ p. p.var < length within.now.high) parts.now }
-    requires small { weight parts.now within.now.high < 2 ^ 100 }
-    ensures value { result ≡ most_of parts.now within.now }
-    ensures bound { unsigned_abs result ≤ weight parts.now within.now.high }
-{
-    let mut sum = 0;
-    for part in parts {
-        sum += most_part(part, within);
-    }
-    sum
+    sum_end(End::Least, row.parts.as_slice(), within)
 }
 
 /// The greatest value of the parts of an objective over a box, its constant not included.
@@ -138,5 +105,5 @@ pub fn most(goal: &[Part], within: &IpBox) -> i128
     ensures none_above { NoneAbove goal.now within.now result }
     ensures bound { unsigned_abs result ≤ weight goal.now within.now.high }
 {
-    most_sum(goal, within)
+    sum_end(End::Most, goal, within)
 }

@@ -16,49 +16,50 @@ ghost use Rattle.int_program.specs.Accepts.{Accepts};
 ghost use Rattle.int_program.specs.Cases.{AreCases};
 ghost use Rattle.int_program.specs.Counting.{root_points, split_count, IsCut, IsCutTree};
 ghost use Rattle.int_program.specs.Fair.{IsFairSplit, IsFair};
+ghost use Rattle.int_program.specs.TreeLaws.{NoPointIsBetter, NoPointIsLeft, AcceptedForGreaterValues, AcceptedForEachValue, AcceptedTreesAreShort, CuttingTreesAreShort, ListsAcceptAsTrees, DualSumsStop, FarSumsStop, RowsAreSmall, GoalIsSmall, FairSplitsCut, FairWithoutTightening};
 
 /// A tree that is accepted for a value leaves no point with a greater value; one that is accepted for none leaves no point.
 pub fn accepted_trees_leave_no_better_point()
-    ensures value { (ip : Ip) (known : ℤ) (tree : Tree) → Accepts ip (Some known) tree → (x : List ℤ) → IsPoint ip x → value_of ip x ≤ℤ known }
-    ensures none { (ip : Ip) (tree : Tree) → Accepts ip None tree → (x : List ℤ) → IsPoint ip x → ⊥ }
+    ensures value { NoPointIsBetter }
+    ensures none { NoPointIsLeft }
 {}
 
 /// What is accepted for a value is accepted for each greater one, and what is accepted for none is accepted for each value.
 pub fn accepted_trees_stay_accepted()
-    ensures greater { (ip : Ip) (known more : ℤ) (tree : Tree) → known ≤ℤ more → Accepts ip (Some known) tree → Accepts ip (Some more) tree }
-    ensures none { (ip : Ip) (known : ℤ) (tree : Tree) → Accepts ip None tree → Accepts ip (Some known) tree }
+    ensures greater { AcceptedForGreaterValues }
+    ensures none { AcceptedForEachValue }
 {}
 
 /// A tree has fewer splits than its root box has points, where it is accepted, and where its splits cut and its tightenings
 /// are accepted.
 pub fn trees_have_fewer_splits_than_points()
-    ensures accepted { (ip : Ip) (known : Option ℤ) (tree : Tree) → IsNonempty (root_of ip) → Accepts ip known tree → split_count tree.nodes < root_points ip }
-    ensures cut { (ip : Ip) (tree : Tree) → IsNonempty (root_of ip) → IsCutTree ip tree → split_count tree.nodes < root_points ip }
+    ensures accepted { AcceptedTreesAreShort }
+    ensures cut { CuttingTreesAreShort }
 {}
 
 /// The recursion on the list of nodes with the open boxes, and the recursion on the tree, accept the same.
 pub fn lists_and_trees_are_accepted_alike()
-    ensures { (ip : Ip) (known : Option ℤ) (tree : Tree) → Accepts ip known tree ↔ AreCases ip known tree }
+    ensures { ListsAcceptAsTrees }
 {}
 
 /// A sum of weighted rows stops exactly where one of its numbers leaves the signed 128 bits, and is the exact one otherwise.
 pub fn sums_stop_where_a_number_is_too_wide()
-    ensures dual { (ip : Ip) (b : IpBox) (over : ℤ) (ws : List Weight) → tried_dual ip b over ws ≡ where_all_fit (dual_numbers ip b over ws) (dual_bound ip b over ws) }
-    ensures far { (ip : Ip) (b : IpBox) (ws : List Weight) → tried_far ip b ws ≡ where_all_fit (far_numbers ip b ws) (right_side ip ws, rows_least ip b ws) }
+    ensures dual { DualSumsStop }
+    ensures far { FarSumsStop }
 {}
 
 /// In a program in its limits each row and the objective are small over each nonempty box inside the root box, as `least`, `most`
 /// and `tighten` want it; and the root box is such a box.
 pub fn boxes_inside_the_root_are_small()
     ensures box_kept { (ip : Ip) (b : IpBox) → IsInside ip b → IsNonempty b × IsFromZero b }
-    ensures rows { (ip : Ip) (b : IpBox) → IsInLimits ip → IsInside ip b → All (λ row. AreSmall row.parts row.most b.high) ip.rows }
-    ensures goal { (ip : Ip) (b : IpBox) → IsInLimits ip → IsInside ip b → AreSmall ip.goal (pos 0) b.high }
+    ensures rows { RowsAreSmall }
+    ensures goal { GoalIsSmall }
     ensures root { (ip : Ip) → IsInLimits ip → IsInside ip (root_of ip) }
 {}
 
 /// A fair split of a box with the program's variables cuts it, so that a tree of fair splits has fewer splits than points; and a
 /// node that is fair where tightening is owed is fair where it isn't.
 pub fn fair_splits_cut()
-    ensures cut { (owed : Bool) (above : ℕ) (ip : Ip) (b : IpBox) (v : ℕ) (k : ℤ) → length b.low ≡ length ip.tops → IsFairSplit owed above ip b v k → IsCut b v k }
-    ensures owed { (above : ℕ) (ip : Ip) (known : Option ℤ) (b : IpBox) (node : Node) → IsFair true above ip known b node → IsFair false above ip known b node }
+    ensures cut { FairSplitsCut }
+    ensures owed { FairWithoutTightening }
 {}

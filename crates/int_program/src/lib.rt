@@ -5,8 +5,6 @@ mod bounds;
 mod laws;
 mod limits;
 mod program;
-#[cfg(test)]
-mod tests;
 mod tightening;
 
 pub use bounds::{least, most, root};

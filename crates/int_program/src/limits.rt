@@ -2,9 +2,18 @@
 
 ghost use Rattle.std.specs.Prelude.{◌≡◌, ◌↔◌, ℕ, ℤ, pos, ◌*◌, ◌+◌, ◌^◌, ◌<◌, ◌-◌, ◌≤◌, ◌≤ℤ◌, length, unsigned_abs, min, max, All, IsTrue};
 ghost use Rattle.int_program.specs.Boxes.{IsNonempty, IsFromZero};
-ghost use Rattle.int_program.specs.Limits.{part_weight, weight, IsRising, AreSmall, IsInLimits};
+ghost use Rattle.int_program.specs.Limits.{part_weight, weight, IsRising, AreSmall, IsInLimits, weight_limit};
 
 use crate::program::{Ip, IpBox, Part, Row};
+
+/// The most variables of a program.
+const MOST_VARIABLES: usize = 100_000;
+
+/// The most rows of a program.
+const MOST_ROWS: usize = 200_000;
+
+/// What a row, with what stands beside it, must stay below.
+const WEIGHT_LIMIT: u128 = 1 << 100;
 
 /// Whether the part names a variable from `next` on, one of the first `count`.
 fn is_next(part: &Part, next: u64, count: usize) -> bool
@@ -42,13 +51,13 @@ fn capped_weight(part: &Part, tops: &[i128]) -> u128
 
 /// Whether the parts and the number beside them are small together.
 fn is_light(parts: &[Part], beside: i128, tops: &[i128]) -> bool
-    ensures { IsTrue result ↔ weight parts.now tops.now + unsigned_abs beside < 2 ^ 100 }
+    ensures { IsTrue result ↔ weight parts.now tops.now + unsigned_abs beside < weight_limit }
 {
     let mut sum = beside.unsigned_abs();
     for part in parts {
         sum = sum.saturating_add(capped_weight(part, tops));
     }
-    sum < 1 << 100
+    sum < WEIGHT_LIMIT
 }
 
 /// Whether the parts are small together with a number beside them, and name variables that have a top, each once at most, by
@@ -115,7 +124,7 @@ pub fn is_in_limits(ip: &Ip) -> bool
 {
     let tops = ip.tops.as_slice();
     let rows = ip.rows.as_slice();
-    if tops.len() > 100_000 || rows.len() > 200_000 {
+    if tops.len() > MOST_VARIABLES || rows.len() > MOST_ROWS {
         return false;
     }
     if !are_from_zero(tops) || !are_rows_small(rows, tops) {

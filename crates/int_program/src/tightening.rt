@@ -5,10 +5,10 @@ ghost use Rattle.std.specs.Int.{int_div_euclid};
 ghost use Rattle.int_program.specs.Sums.{at};
 ghost use Rattle.int_program.specs.Boxes.{IsNonempty, IsFromZero};
 ghost use Rattle.int_program.specs.Bounds.{least_of, part_least};
-ghost use Rattle.int_program.specs.Limits.{part_weight, weight, AreSmall};
+ghost use Rattle.int_program.specs.Limits.{part_weight, weight, AreSmall, weight_limit};
 ghost use Rattle.int_program.specs.Tightening.{factor, left_over, others, shrunk, tight_ends, IsTightened};
 
-use crate::bounds::least_part;
+use crate::bounds::{End, part_end};
 use crate::program::{IpBox, Part, Row};
 
 /// The part's coefficient, where it is the variable's.
@@ -24,22 +24,22 @@ fn part_other(part: &Part, var: u32, within: &IpBox) -> i128
     requires nonempty { IsNonempty within.now }
     requires from_zero { IsFromZero within.now }
     requires in_box { part.now.var < length within.now.high }
-    requires small { part_weight part.now within.now.high < 2 ^ 100 }
+    requires small { part_weight part.now within.now.high < weight_limit }
     ensures value { result ≡ (if part.now.var == var then pos 0 else part_least part.now within.now) }
     ensures bound { unsigned_abs result ≤ part_weight part.now within.now.high }
 {
     if part.var == var {
         0
     } else {
-        least_part(part, within)
+        part_end(End::Least, part, within)
     }
 }
 
 /// The variable's coefficient.
 fn factor_of(parts: &[Part], var: u32, high: &[i128]) -> i128
-    requires { weight parts.now high.now < 2 ^ 100 }
+    requires { weight parts.now high.now < weight_limit }
     ensures value { result ≡ factor parts.now var }
-    ensures bound { unsigned_abs result < 2 ^ 100 }
+    ensures bound { unsigned_abs result < weight_limit }
 {
     let mut sum = 0;
     for part in parts {
@@ -53,9 +53,9 @@ fn least_of_others(parts: &[Part], var: u32, within: &IpBox) -> i128
     requires nonempty { IsNonempty within.now }
     requires from_zero { IsFromZero within.now }
     requires vars { All (λ p. p.var < length within.now.high) parts.now }
-    requires small { weight parts.now within.now.high < 2 ^ 100 }
+    requires small { weight parts.now within.now.high < weight_limit }
     ensures value { result ≡ least_of (others parts.now var) within.now }
-    ensures bound { unsigned_abs result < 2 ^ 100 }
+    ensures bound { unsigned_abs result < weight_limit }
 {
     let mut sum = 0;
     for part in parts {
@@ -66,8 +66,8 @@ fn least_of_others(parts: &[Part], var: u32, within: &IpBox) -> i128
 
 /// The quotient, rounded down for a divisor above 0 and up for one below.
 fn rounded(most: i128, least: i128, factor: i128) -> i128
-    requires most { unsigned_abs most < 2 ^ 100 }
-    requires least { unsigned_abs least < 2 ^ 100 }
+    requires most { unsigned_abs most < weight_limit }
+    requires least { unsigned_abs least < weight_limit }
     requires factor { factor ≢ pos 0 }
     ensures { result ≡ int_div_euclid (most -ℤ least) factor }
 {

@@ -1,6 +1,8 @@
 -- The first word of a declaration says which it is.
-use Rattle.std.proofs.Common.{◌≡◌, ℕ, Bool, true, false, IsTrue, List, [], ◌∷◌, Option, codes, bytes_eq, cond, refl, sym, ap, subst, ◌∙◌}
+use Rattle.std.proofs.Common.{Result, ◌⊎◌, inl, inr, ◌≤◌, ◌≡◌, ℕ, Bool, true, false, IsTrue, List, [], ◌∷◌, Option, codes, bytes_eq, cond, refl, sym, ap, subst, ◌∙◌}
+use Rattle.elastic_ast.specs.Seen.{seen_decl}
 use Rattle.elastic_ast.specs.Tree.{Name, PlainDecl}
+use Rattle.elastic_ast.specs.declared.declarations.Decl.{Decl}
 use Rattle.elastic_ast.specs.declared.declarations.Comp.{Comp}
 use Rattle.elastic_ast.specs.declared.declarations.Field.{Field}
 use Rattle.elastic_ast.specs.declared.declarations.UtilTerm.{UtilTerm}
@@ -9,7 +11,12 @@ use Rattle.p4_lexer.specs.declared.token.Kind.{Kind}
 use Rattle.p4_lexer.specs.declared.token.Kind.TheVariants as kind
 use Rattle.spelling.specs.Words.{Word}
 use Rattle.spelling.specs.Grammar.{Begins, IsNamed, IsReserved, is_reserved}
-use Rattle.spelling.specs.Reading.{MayTake}
+use Rattle.spelling.specs.Reading.{IsReading, MayTake, ahead}
+use Rattle.spelling.specs.Readers.{ReadsMade, ReadsWithin}
+use Rattle.spelling.specs.declared.error.SyntaxError.{SyntaxError}
+use Rattle.spelling.specs.declared.reader.Reader.{Reader}
+use Rattle.p4_declarations.specs.Made.{a_constant, a_deparser, a_header, a_package, a_register, a_struct}
+use Rattle.p4_declarations.specs.declared.package.Parts.{Parts}
 use Rattle.spelling.proofs.Only.{begins, begins_both, begins_first, of_where}
 use Rattle.p4_declarations.specs.Flat.{SpellsFlat}
 
@@ -138,18 +145,34 @@ own_text more (PlainDecl.Control name locals body) text m s = absurd m.spelled
 own_text more (PlainDecl.Deparser name emits) text m s = one_text (codes "control") (λ word h. h.1) (begins_first m) s
 own_text more (PlainDecl.Main parser control deparser) text m s = one_text (codes "Pisa") (λ word h. h.1) (begins_first m) s
 
+-- the parts of a declaration that begins so, and the declaration that is made of them
+abbrev pub PartsOf : First → Type 0
+PartsOf First.by_inclusion = ℕ
+PartsOf First.by_symbolic = Name
+PartsOf First.by_assume = List Comp
+PartsOf First.by_maximize = List UtilTerm
+PartsOf First.by_const = Name × ℕ × ℕ
+PartsOf First.by_header = Name × List Field
+PartsOf First.by_struct = List (Name × Name) ⊎ List Field
+PartsOf First.by_register = Name × ℕ × Amount × Option Name
+PartsOf First.by_control = Name × List Name
+PartsOf First.by_main = Parts
+
+abbrev pub made : (first : First) → PartsOf first → PlainDecl
+made First.by_inclusion = PlainDecl.Include
+made First.by_symbolic = PlainDecl.Symbol
+made First.by_assume = PlainDecl.Assume
+made First.by_maximize = PlainDecl.Maximize
+made First.by_const = a_constant
+made First.by_header = a_header
+made First.by_struct = a_struct
+made First.by_register = a_register
+made First.by_control = a_deparser
+made First.by_main = a_package
+
 -- a fact about the declarations that begin so
 abbrev pub Forms : (PlainDecl → Type 0) → ℕ → List Word → List Word → First → Type 0
-Forms P more a c First.by_inclusion = (file : ℕ) → MayTake (SpellsFlat more (PlainDecl.Include file)) a c → P (PlainDecl.Include file)
-Forms P more a c First.by_symbolic = (symbol : Name) → MayTake (SpellsFlat more (PlainDecl.Symbol symbol)) a c → P (PlainDecl.Symbol symbol)
-Forms P more a c First.by_assume = (comps : List Comp) → MayTake (SpellsFlat more (PlainDecl.Assume comps)) a c → P (PlainDecl.Assume comps)
-Forms P more a c First.by_maximize = (terms : List UtilTerm) → MayTake (SpellsFlat more (PlainDecl.Maximize terms)) a c → P (PlainDecl.Maximize terms)
-Forms P more a c First.by_const = (name : Name) (width value : ℕ) → MayTake (SpellsFlat more (PlainDecl.Const name width value)) a c → P (PlainDecl.Const name width value)
-Forms P more a c First.by_header = (name : Name) (fields : List Field) → MayTake (SpellsFlat more (PlainDecl.Header name fields)) a c → P (PlainDecl.Header name fields)
-Forms P more a c First.by_struct = ((members : List (Name × Name)) → MayTake (SpellsFlat more (PlainDecl.Headers members)) a c → P (PlainDecl.Headers members)) × ((fields : List Field) → MayTake (SpellsFlat more (PlainDecl.Meta fields)) a c → P (PlainDecl.Meta fields))
-Forms P more a c First.by_register = (name : Name) (width : ℕ) (cells : Amount) (size : Option Name) → MayTake (SpellsFlat more (PlainDecl.Register name width cells size)) a c → P (PlainDecl.Register name width cells size)
-Forms P more a c First.by_control = (name : Name) (emits : List Name) → MayTake (SpellsFlat more (PlainDecl.Deparser name emits)) a c → P (PlainDecl.Deparser name emits)
-Forms P more a c First.by_main = (parser control deparser : Name) → MayTake (SpellsFlat more (PlainDecl.Main parser control deparser)) a c → P (PlainDecl.Main parser control deparser)
+Forms P more a c first = (of : PartsOf first) → MayTake (SpellsFlat more (made first of)) a c → P (made first of)
 
 -- holds of each
 pub by_form : (P : PlainDecl → Type 0) (more : ℕ) (decl : PlainDecl) {a c : List Word} → MayTake (SpellsFlat more decl) a c → Forms P more a c (first_of decl) → P decl
@@ -157,15 +180,15 @@ by_form P more (PlainDecl.Include file) m f = f file m
 by_form P more (PlainDecl.Symbol symbol) m f = f symbol m
 by_form P more (PlainDecl.Assume comps) m f = f comps m
 by_form P more (PlainDecl.Maximize terms) m f = f terms m
-by_form P more (PlainDecl.Const name width value) m f = f name width value m
-by_form P more (PlainDecl.Header name fields) m f = f name fields m
-by_form P more (PlainDecl.Headers members) m f = f.0 members m
-by_form P more (PlainDecl.Meta fields) m f = f.1 fields m
-by_form P more (PlainDecl.Register name width cells size) m f = f name width cells size m
+by_form P more (PlainDecl.Const name width value) m f = f (name, width, value) m
+by_form P more (PlainDecl.Header name fields) m f = f (name, fields) m
+by_form P more (PlainDecl.Headers members) m f = f (inl members) m
+by_form P more (PlainDecl.Meta fields) m f = f (inr fields) m
+by_form P more (PlainDecl.Register name width cells size) m f = f (name, width, cells, size) m
 by_form P more (PlainDecl.Parser name states) m f = absurd m.spelled
 by_form P more (PlainDecl.Control name locals body) m f = absurd m.spelled
-by_form P more (PlainDecl.Deparser name emits) m f = f name emits m
-by_form P more (PlainDecl.Main parser control deparser) m f = f parser control deparser m
+by_form P more (PlainDecl.Deparser name emits) m f = f (name, emits) m
+by_form P more (PlainDecl.Main parser control deparser) m f = f record { parser = parser; control = control; deparser = deparser } m
 
 -- where the text of the first word is known, these are the only ones
 pub by_first : (P : PlainDecl → Type 0) (more : ℕ) (decl : PlainDecl) (first : First) {a c : List Word} → MayTake (SpellsFlat more decl) a c → StartsWith (text_of first) a → Forms P more a c first → P decl
@@ -200,3 +223,17 @@ included P more (PlainDecl.Parser name states) none m f = absurd m.spelled
 included P more (PlainDecl.Control name locals body) none m f = absurd m.spelled
 included P more (PlainDecl.Deparser name emits) none m f = absurd (none.control (begins_first m))
 included P more (PlainDecl.Main parser control deparser) none m f = absurd (none.main (begins_first m))
+
+-- a reader of what begins so reads each declaration, where its first word stands
+pub made_flat : {depth : ℕ} {before after : Reader} {result : Result Decl SyntaxError} (first : First) → StartsWith (text_of first) (ahead before) → ReadsMade SpellsFlat seen_decl (made first) depth before after result → ReadsWithin SpellsFlat seen_decl depth before after result
+made_flat {depth = depth} {after = end} {result = result} first at r =
+    record {
+      taken = r.taken;
+      only = λ more decl rest m. by_first (λ d. IsReading (more ≤ depth) seen_decl d rest (ahead end) result) more decl first m at (λ of f. r.only more of rest f);
+      deep = r.deep;
+    }
+
+-- the two structures
+pub by_structure : (P : PlainDecl → Type 0) (more : ℕ) {a c : List Word} (of : List (Name × Name) ⊎ List Field) → MayTake (SpellsFlat more (a_struct of)) a c → ((members : List (Name × Name)) → MayTake (SpellsFlat more (PlainDecl.Headers members)) a c → P (PlainDecl.Headers members)) → ((fields : List Field) → MayTake (SpellsFlat more (PlainDecl.Meta fields)) a c → P (PlainDecl.Meta fields)) → P (a_struct of)
+by_structure P more (inl members) m headers meta = headers members m
+by_structure P more (inr fields) m headers meta = meta fields m

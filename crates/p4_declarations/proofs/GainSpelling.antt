@@ -5,18 +5,14 @@ use Rattle.elastic_ast.specs.declared.declarations.LinTerm.{LinTerm}
 use Rattle.elastic_ast.specs.declared.declarations.UtilTerm.{UtilTerm}
 use Rattle.elastic_ast.specs.declared.declarations.UtilTerm.TheVariants as util
 use Rattle.spelling.specs.Words.{Word}
-use Rattle.spelling.specs.Grammar.{Grammar, ◌⨟◌, Each, Sign, Begins, IsReserved, IsSign, is_reserved}
+use Rattle.spelling.specs.Grammar.{Grammar, ◌⨟◌, Each, Begins, IsReserved, IsSign, is_reserved}
 use Rattle.spelling.specs.Reading.{MayTake, Ends}
 use Rattle.spelling.proofs.Only.{begins, begins_both, begins_first, empty_same, fact_of, of_where, regroup, split, which}
 use Rattle.spelling.proofs.Taking.{may_both}
 use Rattle.p4_declarations.specs.GoesOn.{product_signs, sum_signs}
 use Rattle.p4_declarations.specs.Sums.{SpellsProduct, SpellsSign}
-use Rattle.p4_declarations.specs.Flat.{SpellsFirstGain, SpellsLaterGain, SpellsStep, SpellsSteps}
+use Rattle.p4_declarations.specs.Flat.{SpellsFirstGain, SpellsLaterGain, SpellsSteps}
 use Rattle.p4_declarations.proofs.Signs.{sign_follows}
-
--- a step after the first
-abbrev pub LaterStep : ℕ × ℕ → Grammar
-LaterStep step = Sign (codes ",") ⨟ SpellsStep step
 
 -- whether a term is subtracted, and what follows its sign
 abbrev pub is_subtracted : UtilTerm → Bool
@@ -34,9 +30,6 @@ of_first depth (util.Steps minus symbol steps) m = (fact_of m, of_where m)
 pub of_later : (depth : ℕ) (gain : UtilTerm) {a c : List Word} → MayTake (SpellsLaterGain depth gain) a c → MayTake (SpellsSign (is_subtracted gain) ⨟ SpellsGain depth gain) a c
 of_later depth (util.Lin term) m = m
 of_later depth (util.Steps minus symbol steps) m = m
-
-pub same_minus : {read minus : Bool} → Some read ≡ Some minus → minus ≡ read
-same_minus e = cc
 
 -- the first word of a product is no reserved word
 no_product : (by : ℕ) (symbol : Option (List ℕ)) (text : List ℕ) {a c : List Word} → MayTake (SpellsProduct by symbol) a c → Begins (IsReserved text) a → ⊥

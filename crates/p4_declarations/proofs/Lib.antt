@@ -5,5 +5,4 @@ pub mod GainSpelling
 pub mod SameDecls
 pub mod Signs
 pub mod SumSpelling
-pub mod Terms
 pub mod FlatWithin

@@ -16,6 +16,9 @@ same_sign true false m t = absurd (other_sign (codes "+") (codes "-") refl m t)
 same_sign false true m t = absurd (other_sign (codes "-") (codes "+") refl m t)
 same_sign false false m t = (refl, same_end m t)
 
+pub same_minus : {read minus : Bool} → Some read ≡ Some minus → minus ≡ read
+same_minus e = cc
+
 pub no_sign_there : (minus : Bool) {a c : List Word} → MayTake (SpellsSign minus) a c → (Begins (IsSign (codes "-")) a → ⊥) → (Begins (IsSign (codes "+")) a → ⊥) → ⊥
 no_sign_there true m no_minus no_plus = no_minus (begins m)
 no_sign_there false m no_minus no_plus = no_plus (begins m)

@@ -14,6 +14,10 @@ use Rattle.p4_declarations.specs.Sums.{SpellsFirstTerm, SpellsLaterTerm, SpellsS
 abbrev pub SpellsInclude : ℕ → Grammar
 SpellsInclude file = Where (file < 2 ^ 8) (One (λ word. word.kind ≡ kind.Include file))
 
+-- K, a number of 64 bits
+abbrev pub SpellsStepNumber : ℕ → Grammar
+SpellsStepNumber value = Where (value < 2 ^ 64) (Num value)
+
 -- K ':' K
 abbrev pub SpellsStep : ℕ × ℕ → Grammar
 SpellsStep step = Where ((step.0 < 2 ^ 64) × (step.1 < 2 ^ 64)) (Num step.0 ⨟ Sign (codes ":") ⨟ Num step.1)
@@ -32,6 +36,10 @@ abbrev pub SpellsLaterGain : ℕ → UtilTerm → Grammar
 SpellsLaterGain depth (util.Lin term) = SpellsLaterTerm term
 SpellsLaterGain depth (util.Steps minus symbol steps) = SpellsSign minus ⨟ SpellsSteps depth symbol steps
 
+-- util (('+' | '-') util)*
+abbrev pub SpellsGains : ℕ → List UtilTerm → Grammar
+SpellsGains depth = FirstThenEach (SpellsFirstGain depth) (SpellsLaterGain depth)
+
 -- V, without a width or with this one
 abbrev pub SpellsConstant : ℕ → ℕ → Grammar
 SpellsConstant width value = Either (SpellsNumber None value) (SpellsNumber (Some width) value)
@@ -40,21 +48,40 @@ SpellsConstant width value = Either (SpellsNumber None value) (SpellsNumber (Som
 abbrev pub SpellsHeaderField : Field → Grammar
 SpellsHeaderField field = Where (field.size ≡ None) (SpellsBits field.width ⨟ Named field.name ⨟ Sign (codes ";"))
 
+abbrev pub SpellsHeaderFields : ℕ → List Field → Grammar
+SpellsHeaderFields depth = Each SpellsHeaderField
+
 -- a field of the metadata, perhaps with the symbol that is its size: bits ['[' N ']'] N ';'
 abbrev pub SpellsMetaField : ℕ → Field → Grammar
 SpellsMetaField depth field = SpellsBits field.width ⨟ SpellsIndex depth field.size ⨟ Named field.name ⨟ Sign (codes ";")
+
+abbrev pub SpellsMetaFields : ℕ → List Field → Grammar
+SpellsMetaFields depth = Each (SpellsMetaField depth)
 
 -- a header of a packet, its type first: N N ';'
 abbrev pub SpellsMember : Name × Name → Grammar
 SpellsMember member = Named member.0 ⨟ Named member.1 ⨟ Sign (codes ";")
 
--- 'pkt' '.' 'emit' '(' 'hdr' '.' N ')' ';'
-abbrev pub SpellsEmit : ℕ → Name → Grammar
-SpellsEmit depth header = Named (codes "pkt") ⨟ Sign (codes ".") ⨟ Named (codes "emit") ⨟ Bracketed (codes "(") (codes ")") depth (λ _. SpellsHeader header) ⨟ Sign (codes ";")
+abbrev pub SpellsMembers : ℕ → List (Name × Name) → Grammar
+SpellsMembers depth = Each SpellsMember
 
--- 'packet_out' 'pkt' ',' 'in' 'headers_t' 'hdr'
+-- N ';'
+abbrev pub SpellsEndedName : Name → Grammar
+SpellsEndedName name = Named name ⨟ Sign (codes ";")
+
+-- 'pkt' '.' WORD '(' 'hdr' '.' N ')' ';'
+abbrev pub SpellsOfPacket : List ℕ → ℕ → Name → Grammar
+SpellsOfPacket word depth header = Named (codes "pkt") ⨟ Sign (codes ".") ⨟ Named word ⨟ Bracketed (codes "(") (codes ")") depth (λ _. SpellsHeader header) ⨟ Sign (codes ";")
+
+abbrev pub SpellsEmit : ℕ → Name → Grammar
+SpellsEmit = SpellsOfPacket (codes "emit")
+
+-- PACKET 'pkt' ',' DIRECTION 'headers_t' 'hdr'
+abbrev pub SpellsPacketParameters : List ℕ → List ℕ → Grammar
+SpellsPacketParameters packet direction = Named packet ⨟ Named (codes "pkt") ⨟ Sign (codes ",") ⨟ Reserved direction ⨟ Named (codes "headers_t") ⨟ Named (codes "hdr")
+
 abbrev pub SpellsDeparserParameters : Grammar
-SpellsDeparserParameters = Named (codes "packet_out") ⨟ Named (codes "pkt") ⨟ Sign (codes ",") ⨟ Reserved (codes "in") ⨟ Named (codes "headers_t") ⨟ Named (codes "hdr")
+SpellsDeparserParameters = SpellsPacketParameters (codes "packet_out") (codes "in")
 
 -- N '(' ')'
 abbrev pub SpellsPart : ℕ → Name → Grammar

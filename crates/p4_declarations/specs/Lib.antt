@@ -1,3 +1,4 @@
 pub mod GoesOn
 pub mod Sums
 pub mod Flat
+pub mod Made

@@ -5,12 +5,12 @@ mod emits;
 mod fields;
 mod gains;
 mod package;
+mod packets;
 mod reading;
 mod stored;
 mod structs;
 mod sums;
 mod symbols;
-#[cfg(test)]
-mod tests;
 
+pub use packets::{of_packet, packet_parameters};
 pub use reading::flat;

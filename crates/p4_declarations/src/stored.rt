@@ -1,26 +1,20 @@
 //! Constants and registers.
 
-ghost use Rattle.std.specs.Prelude.{◌≡◌, ℕ, ◌≤◌, List, Option, codes, IfOk, IfErr};
-ghost use Rattle.elastic_ast.specs.Seen.{seen_decl};
-ghost use Rattle.elastic_ast.specs.Tree.{PlainDecl};
-ghost use Rattle.elastic_ast.specs.declared.statements.Amount.{Amount};
-ghost use Rattle.spelling.specs.Words.{Word};
-ghost use Rattle.spelling.specs.Grammar.{Bracketed};
-ghost use Rattle.spelling.specs.Reading.{ahead, Takes, MayTake, IsAnswer, IsReading};
+ghost use Rattle.std.specs.Prelude.{ℕ};
+ghost use Rattle.spelling.specs.Readers.{InRound, itself, Reads, ReadsWithin};
 ghost use Rattle.p4_expr.specs.Parts.{SpellsAmount};
-ghost use Rattle.p4_declarations.specs.Flat.{SpellsConstant, SpellsFlat};
-ghost use Rattle.spelling.specs.Bounds.{IfTooDeep, IsNeverDeep, Opens, OpensNext, Stops};
+ghost use Rattle.p4_declarations.specs.Flat.{SpellsConstant};
+ghost use Rattle.p4_declarations.specs.Made.{ReadsFlat, a_constant, a_register};
 
+use crate::fields::ended_name;
 use elastic_ast::{Amount, Decl};
 use p4_expr::{amount, bits, index, number};
-use spelling::{Reader, SyntaxError};
+use spelling::{Reader, SyntaxError, in_brackets};
 use std::alloc::Global;
 
 /// `const bit<WIDTH> NAME = VALUE;`
 pub fn constant(alloc: Global, reader: &mut Reader<'_>) -> Result<Decl, SyntaxError>
-    ensures taken { IfOk result (λ decl. (depth : ℕ) → Takes (SpellsFlat depth (seen_decl decl)) (ahead reader.old) (ahead reader.new)) }
-    ensures only { (depth : ℕ) (name : List ℕ) (width : ℕ) (value : ℕ) (rest : List Word) → MayTake (SpellsFlat depth (PlainDecl.Const name width value)) (ahead reader.old) rest → IsAnswer seen_decl (PlainDecl.Const name width value) rest (ahead reader.new) result }
-    ensures shallow { IfErr result IsNeverDeep }
+    ensures { (depth : ℕ) → ReadsFlat a_constant depth reader.old reader.new result }
 {
     reader.reserved(b"const")?;
     let width = bits(reader)?;
@@ -33,9 +27,7 @@ pub fn constant(alloc: Global, reader: &mut Reader<'_>) -> Result<Decl, SyntaxEr
 
 /// A number without a width or with this one.
 fn constant_value(reader: &mut Reader<'_>, width: u8) -> Result<u128, SyntaxError>
-    ensures taken { IfOk result (λ value. Takes (SpellsConstant width value) (ahead reader.old) (ahead reader.new)) }
-    ensures only { (of value : ℕ) (rest : List Word) → MayTake (SpellsConstant of value) (ahead reader.old) rest → of ≡ width → IsAnswer (λ read. read) value rest (ahead reader.new) result }
-    ensures shallow { IfErr result IsNeverDeep }
+    ensures { Reads (SpellsConstant width) itself reader.old reader.new result }
 {
     let refusal = reader.refusal();
     let (own_width, value) = number(reader)?;
@@ -49,9 +41,7 @@ fn constant_value(reader: &mut Reader<'_>, width: u8) -> Result<u128, SyntaxErro
 
 /// `Register<bit<WIDTH>>(CELLS) NAME;` or `Register<bit<WIDTH>>(CELLS)[SIZE] NAME;`
 pub fn register(alloc: Global, reader: &mut Reader<'_>, depth: u32) -> Result<Decl, SyntaxError>
-    ensures taken { IfOk result (λ decl. Takes (SpellsFlat depth (seen_decl decl)) (ahead reader.old) (ahead reader.new)) }
-    ensures only { (more : ℕ) (name : List ℕ) (width : ℕ) (cells : Amount) (size : Option (List ℕ)) (rest : List Word) → MayTake (SpellsFlat more (PlainDecl.Register name width cells size)) (ahead reader.old) rest → IsReading (more ≤ depth) seen_decl (PlainDecl.Register name width cells size) rest (ahead reader.new) result }
-    ensures deep { IfErr result (IfTooDeep (Stops (Opens depth) OpensNext (ahead reader.old) (ahead reader.new))) }
+    ensures { ReadsFlat a_register depth reader.old reader.new result }
 {
     reader.fixed_name(b"Register")?;
     reader.sign(b"<")?;
@@ -59,8 +49,7 @@ pub fn register(alloc: Global, reader: &mut Reader<'_>, depth: u32) -> Result<De
     reader.sign(b">")?;
     let cells = register_cells(alloc, reader, depth)?;
     let size = index(alloc, reader, depth)?;
-    let name = reader.name(alloc)?;
-    reader.sign(b";")?;
+    let name = ended_name(alloc, reader)?;
     Ok(Decl::Register {
         name,
         width,
@@ -71,12 +60,7 @@ pub fn register(alloc: Global, reader: &mut Reader<'_>, depth: u32) -> Result<De
 
 /// `(CELLS)`
 fn register_cells(alloc: Global, reader: &mut Reader<'_>, depth: u32) -> Result<Amount, SyntaxError>
-    ensures taken { IfOk result (λ cells. Takes (Bracketed (codes "(") (codes ")") depth (λ _. SpellsAmount cells)) (ahead reader.old) (ahead reader.new)) }
-    ensures only { (more : ℕ) (cells : Amount) (rest : List Word) → MayTake (Bracketed (codes "(") (codes ")") more (λ _. SpellsAmount cells)) (ahead reader.old) rest → IsReading (more ≤ depth) (λ read. read) cells rest (ahead reader.new) result }
-    ensures deep { IfErr result (IfTooDeep (Stops (Opens depth) OpensNext (ahead reader.old) (ahead reader.new))) }
+    ensures { ReadsWithin (InRound (λ _. SpellsAmount)) itself depth reader.old reader.new result }
 {
-    let _inner = reader.open(b"(", depth)?;
-    let cells = amount(alloc, reader)?;
-    reader.sign(b")")?;
-    Ok(cells)
+    in_brackets(reader, b"(", b")", depth, |reader, _| amount(alloc, reader))
 }

@@ -1,26 +1,19 @@
 //! Headers, the headers of a packet, and the metadata.
 
-ghost use Rattle.std.specs.Prelude.{ℕ, ◌≤◌, List, codes, IfOk, IfErr};
-ghost use Rattle.elastic_ast.specs.Seen.{seen_decl};
 ghost use Rattle.elastic_ast.specs.Tree.{PlainDecl};
-ghost use Rattle.elastic_ast.specs.declared.declarations.Field.{Field};
-ghost use Rattle.spelling.specs.Words.{Word};
-ghost use Rattle.spelling.specs.Grammar.{Each, Bracketed};
-ghost use Rattle.spelling.specs.Reading.{ahead, Takes, MayTake, IsReading};
-ghost use Rattle.p4_declarations.specs.Flat.{SpellsFlat, SpellsHeaderField, SpellsMember, SpellsMetaField};
-ghost use Rattle.spelling.specs.Bounds.{IfTooDeep, Opens, OpensNext, Stops};
+ghost use Rattle.spelling.specs.Readers.{InCurly, itself, ReadsWithin, ReadsInBlock};
+ghost use Rattle.p4_declarations.specs.Flat.{SpellsHeaderFields, SpellsMembers, SpellsMetaFields};
+ghost use Rattle.p4_declarations.specs.Made.{ReadsFlat, a_header, a_struct};
 
 use crate::fields::{header_fields, members, meta_fields};
 use elastic_ast::{Decl, Field};
 use elx_bits::{Items, Name};
-use spelling::{Reader, SyntaxError};
+use spelling::{Reader, SyntaxError, in_brackets};
 use std::alloc::Global;
 
 /// `header NAME { FIELDS }`
 pub fn header(alloc: Global, reader: &mut Reader<'_>, depth: u32) -> Result<Decl, SyntaxError>
-    ensures taken { IfOk result (λ decl. Takes (SpellsFlat depth (seen_decl decl)) (ahead reader.old) (ahead reader.new)) }
-    ensures only { (more : ℕ) (name : List ℕ) (fields : List Field) (rest : List Word) → MayTake (SpellsFlat more (PlainDecl.Header name fields)) (ahead reader.old) rest → IsReading (more ≤ depth) seen_decl (PlainDecl.Header name fields) rest (ahead reader.new) result }
-    ensures deep { IfErr result (IfTooDeep (Stops (Opens depth) OpensNext (ahead reader.old) (ahead reader.new))) }
+    ensures { ReadsFlat a_header depth reader.old reader.new result }
 {
     reader.reserved(b"header")?;
     let name = reader.name(alloc)?;
@@ -28,11 +21,19 @@ pub fn header(alloc: Global, reader: &mut Reader<'_>, depth: u32) -> Result<Decl
     Ok(Decl::Header { name, fields })
 }
 
+/// A structure: `struct headers_t { HEADERS }` or `struct meta_t { FIELDS }`
+pub fn structure(alloc: Global, reader: &mut Reader<'_>, depth: u32) -> Result<Decl, SyntaxError>
+    ensures { ReadsFlat a_struct depth reader.old reader.new result }
+{
+    if reader.later(1).is_at_name(b"meta_t") {
+        return meta(alloc, reader, depth);
+    }
+    headers(alloc, reader, depth)
+}
+
 /// `struct headers_t { HEADERS }`
-pub fn headers(alloc: Global, reader: &mut Reader<'_>, depth: u32) -> Result<Decl, SyntaxError>
-    ensures taken { IfOk result (λ decl. Takes (SpellsFlat depth (seen_decl decl)) (ahead reader.old) (ahead reader.new)) }
-    ensures only { (more : ℕ) (members : List (List ℕ × List ℕ)) (rest : List Word) → MayTake (SpellsFlat more (PlainDecl.Headers members)) (ahead reader.old) rest → IsReading (more ≤ depth) seen_decl (PlainDecl.Headers members) rest (ahead reader.new) result }
-    ensures deep { IfErr result (IfTooDeep (Stops (Opens depth) OpensNext (ahead reader.old) (ahead reader.new))) }
+fn headers(alloc: Global, reader: &mut Reader<'_>, depth: u32) -> Result<Decl, SyntaxError>
+    ensures { ReadsFlat PlainDecl.Headers depth reader.old reader.new result }
 {
     reader.reserved(b"struct")?;
     reader.fixed_name(b"headers_t")?;
@@ -41,10 +42,8 @@ pub fn headers(alloc: Global, reader: &mut Reader<'_>, depth: u32) -> Result<Dec
 }
 
 /// `struct meta_t { FIELDS }`
-pub fn meta(alloc: Global, reader: &mut Reader<'_>, depth: u32) -> Result<Decl, SyntaxError>
-    ensures taken { IfOk result (λ decl. Takes (SpellsFlat depth (seen_decl decl)) (ahead reader.old) (ahead reader.new)) }
-    ensures only { (more : ℕ) (fields : List Field) (rest : List Word) → MayTake (SpellsFlat more (PlainDecl.Meta fields)) (ahead reader.old) rest → IsReading (more ≤ depth) seen_decl (PlainDecl.Meta fields) rest (ahead reader.new) result }
-    ensures deep { IfErr result (IfTooDeep (Stops (Opens depth) OpensNext (ahead reader.old) (ahead reader.new))) }
+fn meta(alloc: Global, reader: &mut Reader<'_>, depth: u32) -> Result<Decl, SyntaxError>
+    ensures { ReadsFlat PlainDecl.Meta depth reader.old reader.new result }
 {
     reader.reserved(b"struct")?;
     reader.fixed_name(b"meta_t")?;
@@ -58,14 +57,17 @@ fn header_body(
     reader: &mut Reader<'_>,
     depth: u32,
 ) -> Result<Items<Field>, SyntaxError>
-    ensures taken { IfOk result (λ fields. Takes (Bracketed (codes "{") (codes "}") depth (λ _. Each SpellsHeaderField fields)) (ahead reader.old) (ahead reader.new)) }
-    ensures only { (more : ℕ) (fields : List Field) (rest : List Word) → MayTake (Bracketed (codes "{") (codes "}") more (λ _. Each SpellsHeaderField fields)) (ahead reader.old) rest → IsReading (more ≤ depth) (λ read. read) fields rest (ahead reader.new) result }
-    ensures deep { IfErr result (IfTooDeep (Stops (Opens depth) OpensNext (ahead reader.old) (ahead reader.new))) }
+    ensures { ReadsWithin (InCurly SpellsHeaderFields) itself depth reader.old reader.new result }
 {
-    let _inner = reader.open(b"{", depth)?;
-    let fields = header_fields(alloc, reader)?;
-    reader.sign(b"}")?;
-    Ok(fields)
+    in_brackets(
+        reader,
+        b"{",
+        b"}",
+        depth,
+        |reader, inner|
+            ensures { ReadsInBlock SpellsHeaderFields inner reader.old reader.new result }
+        { header_fields(alloc, reader) },
+    )
 }
 
 /// `{ HEADERS }` of a packet
@@ -74,14 +76,17 @@ fn headers_body(
     reader: &mut Reader<'_>,
     depth: u32,
 ) -> Result<Items<(Name, Name)>, SyntaxError>
-    ensures taken { IfOk result (λ members. Takes (Bracketed (codes "{") (codes "}") depth (λ _. Each SpellsMember members)) (ahead reader.old) (ahead reader.new)) }
-    ensures only { (more : ℕ) (members : List (List ℕ × List ℕ)) (rest : List Word) → MayTake (Bracketed (codes "{") (codes "}") more (λ _. Each SpellsMember members)) (ahead reader.old) rest → IsReading (more ≤ depth) (λ read. read) members rest (ahead reader.new) result }
-    ensures deep { IfErr result (IfTooDeep (Stops (Opens depth) OpensNext (ahead reader.old) (ahead reader.new))) }
+    ensures { ReadsWithin (InCurly SpellsMembers) itself depth reader.old reader.new result }
 {
-    let _inner = reader.open(b"{", depth)?;
-    let members = members(alloc, reader)?;
-    reader.sign(b"}")?;
-    Ok(members)
+    in_brackets(
+        reader,
+        b"{",
+        b"}",
+        depth,
+        |reader, inner|
+            ensures { ReadsInBlock SpellsMembers inner reader.old reader.new result }
+        { members(alloc, reader) },
+    )
 }
 
 /// `{ FIELDS }` of the metadata
@@ -90,12 +95,13 @@ fn meta_body(
     reader: &mut Reader<'_>,
     depth: u32,
 ) -> Result<Items<Field>, SyntaxError>
-    ensures taken { IfOk result (λ fields. Takes (Bracketed (codes "{") (codes "}") depth (λ inner. Each (SpellsMetaField inner) fields)) (ahead reader.old) (ahead reader.new)) }
-    ensures only { (more : ℕ) (fields : List Field) (rest : List Word) → MayTake (Bracketed (codes "{") (codes "}") more (λ inner. Each (SpellsMetaField inner) fields)) (ahead reader.old) rest → IsReading (more ≤ depth) (λ read. read) fields rest (ahead reader.new) result }
-    ensures deep { IfErr result (IfTooDeep (Stops (Opens depth) OpensNext (ahead reader.old) (ahead reader.new))) }
+    ensures { ReadsWithin (InCurly SpellsMetaFields) itself depth reader.old reader.new result }
 {
-    let inner = reader.open(b"{", depth)?;
-    let fields = meta_fields(alloc, reader, inner)?;
-    reader.sign(b"}")?;
-    Ok(fields)
+    in_brackets(
+        reader,
+        b"{",
+        b"}",
+        depth,
+        |reader, inner| meta_fields(alloc, reader, inner),
+    )
 }

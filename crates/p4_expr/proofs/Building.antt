@@ -3,7 +3,7 @@ use Rattle.std.proofs.Common.{◌≡◌, ℕ, zero, suc, ◌<◌, ◌^◌, IsTru
 use Rattle.p4_lexer.specs.declared.token.Kind.{Kind}
 use Rattle.p4_lexer.specs.declared.token.Kind.TheVariants as kind
 use Rattle.elastic_ast.specs.Tree.{PlainExpr}
-use Rattle.elastic_ast.specs.Operators.{Or, And, Equal, BitAnd, ShiftUp, ShiftDown, Plus, Minus, Times, Turn, Negate}
+use Rattle.elastic_ast.specs.OperatorSorts.{Equal, BitAnd, ShiftUp, ShiftDown, Plus, Minus, Times, Turn, Negate}
 use Rattle.spelling.specs.Words.{Word}
 use Rattle.spelling.specs.Grammar as grammar
 use Rattle.spelling.specs.Grammar.{Grammar, Sequence, One, IsSign, IsReserved, IsNamed}
@@ -42,12 +42,6 @@ name_last text w h e = word_last w (h, e)
 
 pub touching : (one two : Word) → one.kind ≡ kind.Sign 7 → one.piece ≡ codes ">" → two.kind ≡ kind.Sign 7 → two.piece ≡ codes ">" → one.end ≡ two.at → SpellsOperator ShiftDown (one ∷ two ∷ [])
 touching one two h e k f touch = record { one = one; other = two; both = refl; is_first = is_sign (codes ">") 7 one h e; is_second = is_sign (codes ">") 7 two k f; touch = touch }
-
-pub is_or : IsOperator 10 0 Or
-is_or = record { coded = refl; level_is = refl }
-
-pub is_and : IsOperator 9 1 And
-is_and = record { coded = refl; level_is = refl }
 
 pub is_equal : IsOperator 8 2 Equal
 is_equal = record { coded = refl; level_is = refl }

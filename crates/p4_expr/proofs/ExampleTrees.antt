@@ -1,12 +1,12 @@
 -- The trees of the examples.
-use Rattle.std.proofs.Common.{[], ◌∷◌, codes, refl, None, lit<}
-use Rattle.elastic_ast.specs.Operators.{ShiftDown, Plus, Minus, Times, Turn, Negate}
+use Rattle.std.proofs.Common.{[], ◌∷◌, codes, refl, lit<}
+use Rattle.elastic_ast.specs.OperatorSorts.{ShiftDown, Plus, Minus, Times, Turn, Negate}
 use Rattle.elastic_ast.specs.Tree.{PlainExpr}
 use Rattle.p4_expr.specs.Expressions.{SpellsLevel, SpellsPrefixed, SpellsPrimary, SpellsExpr}
-use Rattle.p4_expr.specs.Examples.{product_in_sum, two_differences, name_in_brackets, shift, four_bits, byte_of_name, two_prefixes}
+use Rattle.p4_expr.specs.Examples.{tree_of_two_prefixes, tree_of_byte_of_name, tree_of_four_bits, tree_of_shift, tree_of_two_differences, tree_of_product_in_sum, product_in_sum, two_differences, name_in_brackets, shift, four_bits, byte_of_name, two_prefixes}
 use Rattle.p4_expr.proofs.Building.{sign_first, sign_last, reserved_first, word_first, word_last, is_plus, is_minus, is_times, is_shift_down, is_turn, is_negate, touching, primary_name, prefixed_name, one_name, one_number, from_none, from_two, from_three}
 
-pub sum_tree : SpellsExpr 0 (PlainExpr.Binary 13 (PlainExpr.Named (codes "a")) (PlainExpr.Binary 16 (PlainExpr.Named (codes "b")) (PlainExpr.Named (codes "c")))) product_in_sum
+pub sum_tree : SpellsExpr 0 tree_of_product_in_sum product_in_sum
 sum_tree =
     from_two 0 _ product_in_sum
     (SpellsLevel.binary Plus _ _ _ is_plus
@@ -19,7 +19,7 @@ sum_tree =
     refl)
     refl)
 
-pub differences_tree : SpellsExpr 0 (PlainExpr.Binary 14 (PlainExpr.Binary 14 (PlainExpr.Named (codes "a")) (PlainExpr.Named (codes "b"))) (PlainExpr.Named (codes "c"))) two_differences
+pub differences_tree : SpellsExpr 0 tree_of_two_differences two_differences
 differences_tree =
     from_two 0 _ two_differences
     (SpellsLevel.binary Minus _ _ _ is_minus
@@ -37,7 +37,7 @@ brackets_tree =
     from_none 1 _ name_in_brackets (SpellsLevel.prefixed (SpellsPrefixed.primary
     (SpellsPrimary.bracketed _ _ _ (sign_last (codes "(") 2 _ refl refl) (from_none 0 _ _ (one_name 0 (codes "a") _ refl refl)) (sign_last (codes ")") 3 _ refl refl) refl)))
 
-pub shift_tree : SpellsExpr 0 (PlainExpr.Binary 12 (PlainExpr.Named (codes "x")) (PlainExpr.Num None 2)) shift
+pub shift_tree : SpellsExpr 0 tree_of_shift shift
 shift_tree =
     from_three 0 _ shift
     (SpellsLevel.binary ShiftDown _ _ _ is_shift_down
@@ -46,7 +46,7 @@ shift_tree =
     (SpellsLevel.stronger (SpellsLevel.stronger (one_number 0 2 _ (lit< tt) refl)))
     refl)
 
-pub slice_tree : SpellsExpr 1 (PlainExpr.Slice (PlainExpr.Named (codes "h")) 7 4) four_bits
+pub slice_tree : SpellsExpr 1 tree_of_four_bits four_bits
 slice_tree =
     from_none 1 _ four_bits (SpellsLevel.prefixed (SpellsPrefixed.primary
     (SpellsPrimary.slice _ _ (primary_name 1 (codes "h") _ refl refl) (
@@ -62,7 +62,7 @@ slice_tree =
     )
     refl)))
 
-pub cast_tree : SpellsExpr 1 (PlainExpr.Cast 8 (PlainExpr.Named (codes "x"))) byte_of_name
+pub cast_tree : SpellsExpr 1 tree_of_byte_of_name byte_of_name
 cast_tree =
     from_none 1 _ byte_of_name (SpellsLevel.prefixed
     (SpellsPrefixed.cast (_ ∷ _ ∷ _ ∷ _ ∷ _ ∷ _ ∷ []) _
@@ -77,7 +77,7 @@ cast_tree =
     (prefixed_name 1 (codes "x") _ refl refl)
     refl))
 
-pub prefixes_tree : SpellsExpr 0 (PlainExpr.Unary 17 (PlainExpr.Unary 18 (PlainExpr.Named (codes "x")))) two_prefixes
+pub prefixes_tree : SpellsExpr 0 tree_of_two_prefixes two_prefixes
 prefixes_tree =
     from_none 0 _ two_prefixes (SpellsLevel.prefixed
     (SpellsPrefixed.unary Turn _ _ is_turn (sign_last (codes "~") 19 _ refl refl)

@@ -11,6 +11,7 @@ use Rattle.spelling.specs.Words.{Word}
 use Rattle.spelling.specs.Grammar.{Grammar, ◌⨟◌, One, IsSign, IsNamed, IsReserved, Begins, is_number, is_reserved, is_sign}
 use Rattle.spelling.specs.Reading.{MayTake}
 use Rattle.spelling.proofs.Only.{alone, begins, begins_bracketed, begins_first, behind_first, empty_same, not_sign, of_where, other_text, regroup}
+use Rattle.p4_expr.proofs.PartSpelling.{name_no_number}
 use Rattle.p4_expr.specs.Parts.{SpellsHeader, SpellsLval, SpellsIsValid}
 use Rattle.p4_expr.specs.Bases.{SpellsOwn, form_of}
 use Rattle.p4_expr.specs.Standing.{StandsTest, StandsHash}
@@ -72,10 +73,6 @@ number_there : (width : Option ℕ) (value : ℕ) (a : List Word) → Begins (λ
 number_there width value [] b = b
 number_there width value (word ∷ ws) b = ap is_number b
 
-name_no_number : (a : List Word) → Begins (λ word. IsTrue (is_number word.kind)) a → Begins (λ word. word.kind ≡ kind.Name) a → ⊥
-name_no_number [] b n = b
-name_no_number (word ∷ ws) b n = let e : is_number word.kind ≡ false = ap is_number n in cc
-
 name_no_word : (t : List ℕ) (a : List Word) → Begins (IsReserved t) a → Begins (λ word. word.kind ≡ kind.Name) a → ⊥
 name_no_word t [] b n = b
 name_no_word t (word ∷ ws) b n = let e : is_reserved word.kind ≡ false = ap is_reserved n in let h = b.0 in cc
@@ -96,7 +93,7 @@ own_first R depth (PlainExpr.Hash k of modulus) {a = a} m number truth name = na
 
 -- by the form of what begins with a name
 pub by_name : (R : Form → Type 0) (depth : ℕ) (e : PlainExpr) {a c : List Word} → MayTake (SpellsOwn depth e) a c → Begins (λ word. word.kind ≡ kind.Name) a → (drop 1 a ≡ c → R form.Name) → (LvalWords a c → R form.Place) → (Begins (IsNamed (codes "hdr")) a × Begins (IsSign (codes ".")) (drop 1 a) × StandsTest a → R form.Validity) → (StandsHash a → R form.Hash) → R (form_of e)
-by_name R depth (PlainExpr.Num width value) {a = a} m b name place test hash = absurd (name_no_number a (number_there _ _ a (begins (of_where m))) b)
+by_name R depth (PlainExpr.Num width value) {a = a} m b name place test hash = absurd (name_no_number a b (number_there _ _ a (begins (of_where m))))
 by_name R depth (PlainExpr.Truth true) {a = a} m b name place test hash = absurd (name_no_word _ a (begins m) b)
 by_name R depth (PlainExpr.Truth false) {a = a} m b name place test hash = absurd (name_no_word _ a (begins m) b)
 by_name R depth (PlainExpr.Named n) m b name place test hash = name (empty_same (behind_first (alone m)))

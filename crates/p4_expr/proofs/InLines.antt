@@ -1,7 +1,7 @@
 -- Expressions and their parts end no statement and open no block.
 use Rattle.std.proofs.Common.{ℕ, true, false, Bool, List, ◌++◌, Option, None, Some, codes, refl, sym, subst}
 use Rattle.p4_lexer.specs.declared.token.Kind.TheVariants as kind
-use Rattle.elastic_ast.specs.Operators.{Operator, Or, And, Equal, Differ, Less, AtMost, Greater, AtLeast, BitOr, BitXor, BitAnd, ShiftUp, ShiftDown, Plus, Minus, Join, Times, Turn, Negate, NoOperator}
+use Rattle.elastic_ast.specs.OperatorSorts.{Operator, Or, And, Equal, Differ, Less, AtMost, Greater, AtLeast, BitOr, BitXor, BitAnd, ShiftUp, ShiftDown, Plus, Minus, Join, Times, Turn, Negate, NoOperator}
 use Rattle.elastic_ast.specs.Tree.{PlainExpr}
 use Rattle.elastic_ast.specs.declared.statements.Amount.{Amount}
 use Rattle.elastic_ast.specs.declared.statements.Amount.TheVariants as amount
@@ -43,9 +43,6 @@ index_in_line depth (Some index) = in_square depth (λ _. Named index) (λ _. in
 pub header_in_line : (header : List ℕ) → InLine (SpellsHeader header)
 header_in_line header = in_both (in_named (codes "hdr")) (in_both dot_in_line (in_named header))
 
-pub no_arguments_in_line : (depth : ℕ) → InLine (SpellsNoArguments depth)
-no_arguments_in_line depth = in_round depth (λ _. Empty) (λ _. in_empty)
-
 pub lval_in_line : (depth : ℕ) (place : Lval) → InLine (SpellsLval depth place)
 lval_in_line depth (lval.Header header field) = in_both (header_in_line header) (in_both dot_in_line (in_named field))
 lval_in_line depth (lval.Meta name index) = in_both (in_named (codes "meta")) (in_both dot_in_line (in_both (in_named name) (index_in_line depth index)))
@@ -53,6 +50,9 @@ lval_in_line depth (lval.Std name) = in_both (in_named (codes "std")) (in_both d
 
 pub register_in_line : (depth : ℕ) (register : RegRef) → InLine (SpellsRegister depth register)
 register_in_line depth register = in_both (in_named register.name) (index_in_line depth register.index)
+
+no_arguments_in_line : (depth : ℕ) → InLine (SpellsNoArguments depth)
+no_arguments_in_line depth = in_round depth (λ _. Empty) (λ _. in_empty)
 
 pub is_valid_in_line : (depth : ℕ) (header : List ℕ) → InLine (SpellsIsValid depth header)
 is_valid_in_line depth header = in_both (header_in_line header) (in_both dot_in_line (in_both (in_named (codes "isValid")) (no_arguments_in_line depth)))
@@ -119,9 +119,6 @@ mutual
 
 pub level_line : (depth level : ℕ) (e : PlainExpr) → InLine (SpellsLevel depth level e)
 level_line depth level e ws h = level_in_line h
-
-pub prefixed_line : (depth : ℕ) (e : PlainExpr) → InLine (SpellsPrefixed depth e)
-prefixed_line depth e ws h = prefixed_in_line h
 
 pub primary_line : (depth : ℕ) (e : PlainExpr) → InLine (SpellsPrimary depth e)
 primary_line depth e ws h = primary_in_line h

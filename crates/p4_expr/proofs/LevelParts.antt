@@ -1,7 +1,7 @@
 -- An expression of a level is one of the next stronger level, and the operators of the level with their right operands.
 use Rattle.std.proofs.Common.{◌≡◌, ℕ, suc, List, [], ◌∷◌, ◌++◌, codes, refl, sym, ap, subst, ◌∙◌, arith, append_assoc, append-nil}
 use Rattle.elastic_ast.specs.Tree.{PlainExpr}
-use Rattle.elastic_ast.specs.Operators.{Operator, Or, And, Equal, Differ, Less, AtMost, Greater, AtLeast, BitOr, BitXor, BitAnd, ShiftUp, ShiftDown, Plus, Minus, Join, Times, Turn, Negate, NoOperator}
+use Rattle.elastic_ast.specs.OperatorSorts.{Operator, Or, And, Equal, Differ, Less, AtMost, Greater, AtLeast, BitOr, BitXor, BitAnd, ShiftUp, ShiftDown, Plus, Minus, Join, Times, Turn, Negate, NoOperator}
 use Rattle.spelling.specs.Words.{Word}
 use Rattle.spelling.specs.Grammar.{◌⨟◌, Each, Begins}
 use Rattle.spelling.specs.Reading.{MayTake}

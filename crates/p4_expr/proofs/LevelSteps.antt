@@ -1,6 +1,6 @@
 -- Reading the operators of a level one by one.
 use Rattle.std.proofs.Common.{◌≡◌, ℕ, List, [], ◌∷◌, ◌++◌, codes, drop, sym, ap, subst, ◌∙◌}
-use Rattle.elastic_ast.specs.Operators.{Operator, Or, And, Equal, Differ, Less, AtMost, Greater, AtLeast, BitOr, BitXor, BitAnd, ShiftUp, ShiftDown, Plus, Minus, Join, Times, Turn, Negate, NoOperator}
+use Rattle.elastic_ast.specs.OperatorSorts.{Operator, Or, And, Equal, Differ, Less, AtMost, Greater, AtLeast, BitOr, BitXor, BitAnd, ShiftUp, ShiftDown, Plus, Minus, Join, Times, Turn, Negate, NoOperator}
 use Rattle.spelling.specs.Words.{Word}
 use Rattle.spelling.specs.Grammar.{Grammar, ◌⨟◌, TwoTouching, Sign, IsSign, Begins, BeginTouching}
 use Rattle.spelling.specs.Reading.{Takes, MayTake}

@@ -1,6 +1,6 @@
 -- An operator that is weaker than its place allows stands in brackets.
 use Rattle.std.proofs.Common.{◌≡◌, ℕ, suc, ◌<◌, Bool, true, false, List, [], ◌∷◌, ◌++◌, codes, refl, sym, ap, subst, ◌∙◌, unwrap_or, arith}
-use Rattle.elastic_ast.specs.Operators.{NoOperator, operator_of}
+use Rattle.elastic_ast.specs.OperatorSorts.{NoOperator, operator_of}
 use Rattle.elastic_ast.specs.Tree.{PlainExpr}
 use Rattle.spelling.specs.Words.{Word}
 use Rattle.spelling.specs.Grammar.{Begins, IsSign, Sign}

@@ -27,3 +27,4 @@ pub mod InLines
 pub mod Bound
 pub mod PassingLaws
 pub mod LinesAhead
+pub mod GoingOn

@@ -1,8 +1,8 @@
 -- A name behind so many prefixes has so many operators.
 use Rattle.std.proofs.Common.{◌≡◌, ℕ, zero, suc, ◌≤◌, codes, refl, arith}
-use Rattle.elastic_ast.specs.Operators.{Turn}
+use Rattle.elastic_ast.specs.OperatorSorts.{Turn}
 use Rattle.p4_expr.specs.Operators.{operators_in}
-use Rattle.p4_expr.specs.Expressions.{SpellsPrefixed, SpellsLevel, SpellsExpr, HasFewOperators}
+use Rattle.p4_expr.specs.Expressions.{SpellsPrefixed, SpellsLevel, SpellsExpr, HasFewOperators, most_operators}
 use Rattle.p4_expr.specs.Examples.{turned, turned_words}
 use Rattle.p4_expr.proofs.Building.{sign_last, prefixed_name, is_turn, lift}
 
@@ -18,8 +18,8 @@ turned_operators (suc n) = let e = turned_operators n in omega (arith, e)
 pub prefixes_spelled : (n : ℕ) → SpellsExpr 0 (turned n) (turned_words n)
 prefixes_spelled n = lift 10 (SpellsLevel.prefixed (turned_prefixed n))
 
-pub few_prefixes : (n : ℕ) → n ≤ 64 → HasFewOperators (turned n)
+pub few_prefixes : (n : ℕ) → n ≤ most_operators → HasFewOperators (turned n)
 few_prefixes n few = let e = turned_operators n in omega (arith, e, few)
 
-pub no_more_prefixes : (n : ℕ) → HasFewOperators (turned n) → n ≤ 64
+pub no_more_prefixes : (n : ℕ) → HasFewOperators (turned n) → n ≤ most_operators
 no_more_prefixes n few = let e = turned_operators n in omega (arith, e, few)

@@ -1,13 +1,11 @@
 -- The trees of more examples: shifts and sums, equations, prefixes and slices, casts of sums, hashes and validity bits.
 use Rattle.std.proofs.Common.{[], ◌∷◌, codes, refl, lit<}
-use Rattle.elastic_ast.specs.Operators.{Equal, BitAnd, ShiftUp, Plus, Turn}
-use Rattle.elastic_ast.specs.declared.statements.Amount.TheVariants as amount
-use Rattle.elastic_ast.specs.Tree.{PlainExpr}
+use Rattle.elastic_ast.specs.OperatorSorts.{Equal, BitAnd, ShiftUp, Plus, Turn}
 use Rattle.p4_expr.specs.Expressions.{SpellsLevel, SpellsPrefixed, SpellsPrimary, SpellsExpr}
-use Rattle.p4_expr.specs.Examples.{shift_of_sum, and_in_equation, turned_slice, byte_of_sum, hash_of_name, validity}
+use Rattle.p4_expr.specs.Examples.{tree_of_validity, tree_of_hash_of_name, tree_of_byte_of_sum, tree_of_turned_slice, tree_of_and_in_equation, tree_of_shift_of_sum, shift_of_sum, and_in_equation, turned_slice, byte_of_sum, hash_of_name, validity}
 use Rattle.p4_expr.proofs.Building.{sign_first, sign_last, reserved_first, name_first, name_last, word_first, word_last, is_equal, is_bit_and, is_shift_up, is_plus, is_turn, primary_name, one_name, from_none, lift}
 
-pub shift_of_sum_tree : SpellsExpr 0 (PlainExpr.Binary 11 (PlainExpr.Named (codes "a")) (PlainExpr.Binary 13 (PlainExpr.Named (codes "b")) (PlainExpr.Named (codes "c")))) shift_of_sum
+pub shift_of_sum_tree : SpellsExpr 0 tree_of_shift_of_sum shift_of_sum
 shift_of_sum_tree =
     lift 7
     (SpellsLevel.binary ShiftUp _ _ _ is_shift_up
@@ -20,7 +18,7 @@ shift_of_sum_tree =
     refl)
     refl)
 
-pub and_in_equation_tree : SpellsExpr 0 (PlainExpr.Binary 2 (PlainExpr.Named (codes "a")) (PlainExpr.Binary 10 (PlainExpr.Named (codes "b")) (PlainExpr.Named (codes "c")))) and_in_equation
+pub and_in_equation_tree : SpellsExpr 0 tree_of_and_in_equation and_in_equation
 and_in_equation_tree =
     lift 2
     (SpellsLevel.binary Equal _ _ _ is_equal
@@ -34,7 +32,7 @@ and_in_equation_tree =
     refl))
     refl)
 
-pub turned_slice_tree : SpellsExpr 1 (PlainExpr.Unary 17 (PlainExpr.Slice (PlainExpr.Named (codes "x")) 3 0)) turned_slice
+pub turned_slice_tree : SpellsExpr 1 tree_of_turned_slice turned_slice
 turned_slice_tree =
     lift 10 (SpellsLevel.prefixed
     (SpellsPrefixed.unary Turn _ _ is_turn (sign_last (codes "~") 19 _ refl refl)
@@ -53,7 +51,7 @@ turned_slice_tree =
     refl))
     refl))
 
-pub byte_of_sum_tree : SpellsExpr 1 (PlainExpr.Cast 8 (PlainExpr.Binary 13 (PlainExpr.Named (codes "a")) (PlainExpr.Named (codes "b")))) byte_of_sum
+pub byte_of_sum_tree : SpellsExpr 1 tree_of_byte_of_sum byte_of_sum
 byte_of_sum_tree =
     lift 10 (SpellsLevel.prefixed
     (SpellsPrefixed.cast (_ ∷ _ ∷ _ ∷ _ ∷ _ ∷ _ ∷ []) _
@@ -77,7 +75,7 @@ byte_of_sum_tree =
     refl))
     refl))
 
-pub hash_of_name_tree : SpellsExpr 1 (PlainExpr.Hash (amount.Named (codes "i")) (PlainExpr.Named (codes "x")) (amount.Num 7)) hash_of_name
+pub hash_of_name_tree : SpellsExpr 1 tree_of_hash_of_name hash_of_name
 hash_of_name_tree =
     from_none 1 _ hash_of_name (SpellsLevel.prefixed (SpellsPrefixed.primary
     (SpellsPrimary.hash _ _ _ _ _ _
@@ -89,7 +87,7 @@ hash_of_name_tree =
     (sign_last (codes ")") 3 _ refl refl)
     refl)))
 
-pub validity_tree : SpellsExpr 1 (PlainExpr.IsValid (codes "h")) validity
+pub validity_tree : SpellsExpr 1 tree_of_validity validity
 validity_tree =
     from_none 1 _ validity (SpellsLevel.prefixed (SpellsPrefixed.primary
     (SpellsPrimary.is_valid

@@ -1,7 +1,7 @@
 -- An operator that was passed, by its row in the table of levels.
 use Rattle.std.proofs.Common.{◌≡◌, ℕ, List, Some, sym, subst, ◌∙◌}
 use Rattle.std.specs.Prelude.{slice_get}
-use Rattle.elastic_ast.specs.Operators.{Operator, operators}
+use Rattle.elastic_ast.specs.OperatorSorts.{Operator, operators}
 use Rattle.spelling.specs.Words.{Word}
 use Rattle.spelling.specs.Grammar.{Grammar}
 use Rattle.spelling.specs.Reading.{Takes, ahead}

@@ -1,11 +1,11 @@
 -- Which operator stands first.
 use Rattle.std.proofs.Common.{◌≡◌, ℕ, zero, suc, ◌+◌, ◌≤◌, Bool, true, false, bytes_eq, cond, List, Some, None, [], ◌∷◌, codes, refl, sym, ap, subst, ◌∙◌, arith, inl, inr, ◌⊎◌}
 use Rattle.std.specs.Prelude.{slice_get}
-use Rattle.elastic_ast.specs.Operators.{Operator, Or, And, Equal, Differ, Less, AtMost, Greater, AtLeast, BitOr, BitXor, BitAnd, ShiftUp, ShiftDown, Plus, Minus, Join, Times, Turn, Negate, NoOperator, operators}
+use Rattle.elastic_ast.specs.OperatorSorts.{Operator, Or, And, Equal, Differ, Less, AtMost, Greater, AtLeast, BitOr, BitXor, BitAnd, ShiftUp, ShiftDown, Plus, Minus, Join, Times, Turn, Negate, NoOperator, operators}
 use Rattle.spelling.specs.Words.{Word}
 use Rattle.spelling.specs.Grammar.{IsSign, Begins, BeginTouching}
 use Rattle.spelling.proofs.Only.{begins_both}
-use Rattle.p4_expr.specs.Operators.{IsOperator, level_of, text_of}
+use Rattle.p4_expr.specs.Operators.{code_of, IsOperator, level_of, text_of}
 use Rattle.p4_expr.specs.Standing.{Stands}
 
 -- the text of an operator's first sign
@@ -135,29 +135,6 @@ same_operator operator other ws le s a =
             | inr q ↦ plain_same operator other ws p q s a.stands
           ]
     ]
-
--- the code of an operator, which is its own
-pub code_of : Operator → ℕ
-code_of Or = 0
-code_of And = 1
-code_of Equal = 2
-code_of Differ = 3
-code_of Less = 4
-code_of AtMost = 5
-code_of Greater = 6
-code_of AtLeast = 7
-code_of BitOr = 8
-code_of BitXor = 9
-code_of BitAnd = 10
-code_of ShiftUp = 11
-code_of ShiftDown = 12
-code_of Plus = 13
-code_of Minus = 14
-code_of Join = 15
-code_of Times = 16
-code_of Turn = 17
-code_of Negate = 18
-code_of NoOperator = 19
 
 some_same : {A : Type 0} (x y : A) → Some x ≡ Some y → x ≡ y
 some_same x y h = cc

@@ -1,7 +1,7 @@
 -- The parts of expressions and statements open no more brackets than their depth allows.
 use Rattle.std.proofs.Common.{ℕ, true, false, Bool, List, Option, None, Some, codes, refl}
 use Rattle.p4_lexer.specs.declared.token.Kind.TheVariants as kind
-use Rattle.elastic_ast.specs.Operators.{Operator, Or, And, Equal, Differ, Less, AtMost, Greater, AtLeast, BitOr, BitXor, BitAnd, ShiftUp, ShiftDown, Plus, Minus, Join, Times, Turn, Negate, NoOperator}
+use Rattle.elastic_ast.specs.OperatorSorts.{Operator, Or, And, Equal, Differ, Less, AtMost, Greater, AtLeast, BitOr, BitXor, BitAnd, ShiftUp, ShiftDown, Plus, Minus, Join, Times, Turn, Negate, NoOperator}
 use Rattle.elastic_ast.specs.declared.statements.Amount.{Amount}
 use Rattle.elastic_ast.specs.declared.statements.Amount.TheVariants as amount
 use Rattle.elastic_ast.specs.declared.statements.Lval.{Lval}

@@ -1,22 +1,12 @@
 -- What one word of a piece of an expression says of what was read.
-use Rattle.std.proofs.Common.{◌≡◌, ℕ, Bool, true, false, List, None, codes, refl, sym, ◌∙◌}
-use Rattle.p4_lexer.specs.declared.token.Kind.TheVariants as kind
+use Rattle.std.proofs.Common.{◌≡◌, ℕ, Bool, true, false, List, codes, refl}
 use Rattle.spelling.specs.Words.{Word}
-use Rattle.spelling.specs.Grammar.{Grammar, ◌⨟◌, Num, Reserved, IsReserved, Begins}
+use Rattle.spelling.specs.Grammar.{Reserved, IsReserved, Begins}
 use Rattle.spelling.specs.Reading.{Takes, MayTake, IsWant, MayRefuse}
 use Rattle.spelling.specs.declared.error.SyntaxError.{SyntaxError}
-use Rattle.spelling.proofs.Only.{begins, begins_both, begins_first, other_text, same_end, stands}
+use Rattle.spelling.proofs.Only.{begins, other_text, same_end, stands}
 use Rattle.spelling.proofs.Taking.{may}
 use Rattle.p4_expr.specs.Parts.{SpellsTruth}
-
--- a word is one number
-pub num_same : {n k : ℕ} {Q : Grammar} {a b c : List Word} → MayTake (Num n ⨟ Q) a c → Takes (Num k) a b → k ≡ n
-num_same {n = n} {k = k} {a = a} m t =
-    let both = begins_both a (begins_first m) (begins (may t)) in
-    let one : both.0.kind ≡ kind.Number None n = both.1 in
-    let other : both.0.kind ≡ kind.Number None k = both.2 in
-    let same : kind.Number None k ≡ kind.Number None n = sym other ∙ one in
-    cc
 
 pub same_true : {a b c : List Word} (which : Bool) → MayTake (SpellsTruth which) a c → Takes (Reserved (codes "true")) a b → (true ≡ which) × (b ≡ c)
 same_true true m t = (refl, same_end m t)

@@ -4,16 +4,13 @@ use Rattle.elastic_ast.specs.Tree.{PlainExpr}
 use Rattle.spelling.specs.Words.{Word}
 use Rattle.spelling.specs.Grammar.{Grammar, ◌⨟◌, Each, Begins}
 use Rattle.spelling.proofs.Taking.{all_taken, each_more, spells_all}
-use Rattle.p4_expr.specs.Parts.{SpellsBitRange}
+use Rattle.p4_expr.specs.Parts.{SpellsSlice}
 use Rattle.p4_expr.specs.Expressions.{SpellsPrimary}
 use Rattle.p4_expr.specs.Bases.{SpellsBase}
 use Rattle.p4_expr.proofs.Starts.{IsPrimaryStart, base_starts, begins_front}
 
 abbrev pub Bits : Type 0
 Bits = ℕ × ℕ
-
-abbrev pub SpellsSlice : ℕ → Bits → Grammar
-SpellsSlice depth bits = SpellsBitRange depth bits.0 bits.1
 
 -- an expression with slices behind it
 abbrev pub sliced : PlainExpr → List Bits → PlainExpr

@@ -6,12 +6,12 @@ use Rattle.spelling.specs.Grammar.{Grammar, ◌⨟◌, Each, IsSign, Begins, IsN
 use Rattle.spelling.specs.Reading.{Takes, MayTake}
 use Rattle.spelling.proofs.Only.{begins_bracketed, begins_first, behind_first, empty_same, no_sign, of_where, split}
 use Rattle.spelling.proofs.Taking.{takes_both}
-use Rattle.p4_expr.specs.Parts.{SpellsBitRange}
+use Rattle.p4_expr.specs.Parts.{SpellsBitRange, SpellsSlice}
 use Rattle.p4_expr.specs.Expressions.{SpellsPrimary}
 use Rattle.p4_expr.specs.Operators.{operators_in}
 use Rattle.p4_expr.specs.Bases.{SpellsOwn, SpellsInBrackets, SpellsBase}
 use Rattle.p4_expr.specs.Standing.{EndsBase, EndsLevel, StandsSlice}
-use Rattle.p4_expr.proofs.Slices.{Bits, SpellsSlice, primary_parts, sliced}
+use Rattle.p4_expr.proofs.Slices.{Bits, primary_parts, sliced}
 
 -- a base, and what stands behind it
 pub record PrimaryAhead (depth : ℕ) (e : PlainExpr) (a c : List Word) : Type 0 where

@@ -2,10 +2,11 @@
 use Rattle.std.specs.Prelude.{ℕ, zero, suc, ◌++◌, List, [], ◌∷◌, None, codes, map}
 use Rattle.p4_lexer.specs.declared.token.Kind.TheVariants as kind
 use Rattle.p4_lexer.specs.declared.token.Token.{Token}
-use Rattle.elastic_ast.specs.Operators.{operators}
+use Rattle.elastic_ast.specs.OperatorSorts.{operators, Equal, BitAnd, ShiftUp, ShiftDown, Plus, Minus, Times, Turn, Negate}
+use Rattle.elastic_ast.specs.declared.statements.Amount.TheVariants as amount
 use Rattle.elastic_ast.specs.Tree.{PlainExpr}
 use Rattle.spelling.specs.Words.{Word, words}
-use Rattle.p4_expr.specs.Operators.{level_of, text_of}
+use Rattle.p4_expr.specs.Operators.{code_of, level_of, text_of}
 
 -- the token of a name, of a sign or a reserved word with this code, and of a number without a width, from one place to another
 abbrev pub named : ℕ → ℕ → Token
@@ -62,14 +63,59 @@ hash_of_name = words (codes "hash(i, x, 7)") (named 0 4 ∷ signed 2 4 5 ∷ nam
 abbrev pub validity : List Word
 validity = words (codes "hdr.h.isValid()") (named 0 3 ∷ signed 11 3 4 ∷ named 4 5 ∷ signed 11 5 6 ∷ named 6 13 ∷ signed 2 13 14 ∷ signed 3 14 15 ∷ [])
 
+-- The tree of each of them.
+abbrev pub tree_of_product_in_sum : PlainExpr
+tree_of_product_in_sum = PlainExpr.Binary (code_of Plus) (PlainExpr.Named (codes "a")) (PlainExpr.Binary (code_of Times) (PlainExpr.Named (codes "b")) (PlainExpr.Named (codes "c")))
+
+abbrev pub tree_of_two_differences : PlainExpr
+tree_of_two_differences = PlainExpr.Binary (code_of Minus) (PlainExpr.Binary (code_of Minus) (PlainExpr.Named (codes "a")) (PlainExpr.Named (codes "b"))) (PlainExpr.Named (codes "c"))
+
+abbrev pub tree_of_shift : PlainExpr
+tree_of_shift = PlainExpr.Binary (code_of ShiftDown) (PlainExpr.Named (codes "x")) (PlainExpr.Num None 2)
+
+abbrev pub tree_of_four_bits : PlainExpr
+tree_of_four_bits = PlainExpr.Slice (PlainExpr.Named (codes "h")) 7 4
+
+abbrev pub tree_of_byte_of_name : PlainExpr
+tree_of_byte_of_name = PlainExpr.Cast 8 (PlainExpr.Named (codes "x"))
+
+abbrev pub tree_of_two_prefixes : PlainExpr
+tree_of_two_prefixes = PlainExpr.Unary (code_of Turn) (PlainExpr.Unary (code_of Negate) (PlainExpr.Named (codes "x")))
+
+abbrev pub tree_of_shift_of_sum : PlainExpr
+tree_of_shift_of_sum = PlainExpr.Binary (code_of ShiftUp) (PlainExpr.Named (codes "a")) (PlainExpr.Binary (code_of Plus) (PlainExpr.Named (codes "b")) (PlainExpr.Named (codes "c")))
+
+abbrev pub tree_of_and_in_equation : PlainExpr
+tree_of_and_in_equation = PlainExpr.Binary (code_of Equal) (PlainExpr.Named (codes "a")) (PlainExpr.Binary (code_of BitAnd) (PlainExpr.Named (codes "b")) (PlainExpr.Named (codes "c")))
+
+abbrev pub tree_of_turned_slice : PlainExpr
+tree_of_turned_slice = PlainExpr.Unary (code_of Turn) (PlainExpr.Slice (PlainExpr.Named (codes "x")) 3 0)
+
+abbrev pub tree_of_byte_of_sum : PlainExpr
+tree_of_byte_of_sum = PlainExpr.Cast 8 (PlainExpr.Binary (code_of Plus) (PlainExpr.Named (codes "a")) (PlainExpr.Named (codes "b")))
+
+abbrev pub tree_of_hash_of_name : PlainExpr
+tree_of_hash_of_name = PlainExpr.Hash (amount.Named (codes "i")) (PlainExpr.Named (codes "x")) (amount.Num 7)
+
+abbrev pub tree_of_validity : PlainExpr
+tree_of_validity = PlainExpr.IsValid (codes "h")
+
 -- the level and the text of each operator, by code
 abbrev pub operators_by_code : List (ℕ × List ℕ)
 operators_by_code = map (λ operator. (level_of operator, text_of operator)) operators
 
+-- level 10 is the weakest
+abbrev pub levels_and_texts : List (ℕ × List ℕ)
+levels_and_texts =
+    (10, codes "||") ∷ (9, codes "&&") ∷ (8, codes "==") ∷ (8, codes "!=") ∷ (7, codes "<") ∷
+    (7, codes "<=") ∷ (7, codes ">") ∷ (7, codes ">=") ∷ (6, codes "|") ∷ (5, codes "^") ∷
+    (4, codes "&") ∷ (3, codes "<<") ∷ (3, codes ">>") ∷ (2, codes "+") ∷ (2, codes "-") ∷
+    (2, codes "++") ∷ (1, codes "*") ∷ (0, codes "~") ∷ (0, codes "!") ∷ []
+
 -- a name behind so many prefixes
 abbrev pub turned : ℕ → PlainExpr
 turned zero = PlainExpr.Named (codes "a")
-turned (suc n) = PlainExpr.Unary 17 (turned n)
+turned (suc n) = PlainExpr.Unary (code_of Turn) (turned n)
 
 -- the words of it; where they stand in a text doesn't matter
 abbrev pub turned_words : ℕ → List Word

@@ -3,7 +3,7 @@
 use Rattle.std.specs.Prelude.{◌≡◌, ℕ, suc, ◌≤◌, Bool, List, ◌++◌, Option, codes}
 use Rattle.elastic_ast.specs.declared.statements.Amount.{Amount}
 use Rattle.elastic_ast.specs.declared.statements.Lval.{Lval}
-use Rattle.elastic_ast.specs.Operators.{Operator}
+use Rattle.elastic_ast.specs.OperatorSorts.{Operator}
 use Rattle.elastic_ast.specs.Tree.{Name, PlainExpr}
 use Rattle.spelling.specs.Words.{Word}
 use Rattle.spelling.specs.Grammar.{Grammar, ◌⨟◌, Sign, Named}

@@ -9,6 +9,10 @@ expression_signs =
     codes "||" ∷ codes "&&" ∷ codes "==" ∷ codes "!=" ∷ codes "<" ∷ codes "<=" ∷ codes ">" ∷ codes ">=" ∷ codes "|" ∷ codes "^" ∷ codes "&" ∷
     codes "<<" ∷ codes "+" ∷ codes "-" ∷ codes "++" ∷ codes "*" ∷ codes "[" ∷ codes "." ∷ codes "(" ∷ []
 
+-- a number stands first
+abbrev pub BeginsNumber : List Word → Type 0
+BeginsNumber ws = Begins (λ word. IsTrue (is_number word.kind)) ws
+
 -- after a name that has no index yet an opening bracket begins an index, unless a number follows, with which a slice begins
 abbrev pub EndsIndex : List Word → Type 0
-EndsIndex ws = Begins (IsSign (codes "[")) ws → Begins (λ word. IsTrue (is_number word.kind)) (drop 1 ws)
+EndsIndex ws = Begins (IsSign (codes "[")) ws → BeginsNumber (drop 1 ws)

@@ -7,3 +7,5 @@ pub mod Standing
 pub mod Bases
 pub mod ExprAt
 pub mod Passing
+pub mod Readings
+pub mod Laws

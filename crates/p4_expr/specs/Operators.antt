@@ -2,8 +2,8 @@
 -- specification 1.2.3; the levels are this project's own.
 use Rattle.std.specs.Prelude.{◌≡◌, ℕ, List, [], Some, slice_get, codes}
 use Rattle.spelling.specs.Grammar.{Grammar, Nothing, IsSign, Sign, TwoTouching}
-use Rattle.elastic_ast.specs.Operators.{Operator, Or, And, Equal, Differ, Less, AtMost, Greater, AtLeast, BitOr, BitXor, BitAnd, ShiftUp, ShiftDown, Plus, Minus, Join, Times, Turn, Negate, NoOperator, operators}
-unfoldable pub use Rattle.elastic_ast.specs.Operators.{operators_in}
+use Rattle.elastic_ast.specs.OperatorSorts.{Operator, Or, And, Equal, Differ, Less, AtMost, Greater, AtLeast, BitOr, BitXor, BitAnd, ShiftUp, ShiftDown, Plus, Minus, Join, Times, Turn, Negate, NoOperator, operators}
+unfoldable pub use Rattle.elastic_ast.specs.OperatorSorts.{operators_in}
 
 -- Levels are counted from the strongest on: 0 is that of the prefixed operators, and each level above it is that of some
 -- binary operators.
@@ -54,6 +54,29 @@ text_of Times = codes "*"
 text_of Turn = codes "~"
 text_of Negate = codes "!"
 text_of NoOperator = []
+
+-- its code in trees, which is its place in the list of operators
+abbrev pub code_of : Operator → ℕ
+code_of Or = 0
+code_of And = 1
+code_of Equal = 2
+code_of Differ = 3
+code_of Less = 4
+code_of AtMost = 5
+code_of Greater = 6
+code_of AtLeast = 7
+code_of BitOr = 8
+code_of BitXor = 9
+code_of BitAnd = 10
+code_of ShiftUp = 11
+code_of ShiftDown = 12
+code_of Plus = 13
+code_of Minus = 14
+code_of Join = 15
+code_of Times = 16
+code_of Turn = 17
+code_of Negate = 18
+code_of NoOperator = 19
 
 -- the code is that of this operator, which stands at this level
 pub record IsOperator (level code : ℕ) (operator : Operator) : Type 0 where

@@ -1,6 +1,6 @@
 -- The parts of expressions and statements that have no expression in them, in the manner of the grammar of the P4-16
 -- language specification 1.2.3; this project's own.
-use Rattle.std.specs.Prelude.{◌≡◌, ℕ, ◌<◌, ◌^◌, Bool, true, false, List, Option, None, Some, codes}
+use Rattle.std.specs.Prelude.{◌≡◌, ℕ, ◌<◌, ◌^◌, Bool, true, false, List, Option, None, Some, Result, codes}
 use Rattle.p4_lexer.specs.declared.token.Kind.TheVariants as kind
 use Rattle.elastic_ast.specs.declared.statements.Amount.{Amount}
 use Rattle.elastic_ast.specs.declared.statements.Amount.TheVariants as amount
@@ -8,6 +8,10 @@ use Rattle.elastic_ast.specs.declared.statements.Lval.{Lval}
 use Rattle.elastic_ast.specs.declared.statements.Lval.TheVariants as lval
 use Rattle.elastic_ast.specs.declared.statements.RegRef.{RegRef}
 use Rattle.spelling.specs.Words.{Word}
+use Rattle.spelling.specs.Readers.{ReadsLineMade, itself}
+use Rattle.spelling.specs.declared.error.SyntaxError.{SyntaxError}
+use Rattle.spelling.specs.declared.reader.Reader.{Reader}
+use Rattle.p4_expr.specs.GoesOn.{EndsIndex}
 use Rattle.spelling.specs.Grammar.{Grammar, Empty, One, ◌⨟◌, Where, Sign, Reserved, Named, Num, Bracketed}
 
 abbrev pub IsNumber : Option ℕ → ℕ → Word → Type 0
@@ -21,6 +25,9 @@ FitsWidth (Some width) = width < 2 ^ 8
 -- V: any number, with a width or without one
 abbrev pub SpellsNumber : Option ℕ → ℕ → Grammar
 SpellsNumber width value = Where (FitsWidth width × (value < 2 ^ 128)) (One (IsNumber width value))
+
+abbrev pub SpellsAnyNumber : Option ℕ × ℕ → Grammar
+SpellsAnyNumber number = SpellsNumber number.0 number.1
 
 -- 'true' | 'false'
 abbrev pub SpellsTruth : Bool → Grammar
@@ -55,6 +62,12 @@ SpellsLval depth (lval.Header header field) = SpellsHeader header ⨟ Sign (code
 SpellsLval depth (lval.Meta name index) = Named (codes "meta") ⨟ Sign (codes ".") ⨟ Named name ⨟ SpellsIndex depth index
 SpellsLval depth (lval.Std name) = Named (codes "std") ⨟ Sign (codes ".") ⨟ Named name
 
+abbrev pub a_header_place : List ℕ × List ℕ → Lval
+a_header_place of = lval.Header of.0 of.1
+
+abbrev pub a_meta_place : List ℕ × Option (List ℕ) → Lval
+a_meta_place of = lval.Meta of.0 of.1
+
 -- reg := N ['[' N ']']
 abbrev pub SpellsRegister : ℕ → RegRef → Grammar
 SpellsRegister depth register = Named register.name ⨟ SpellsIndex depth register.index
@@ -68,6 +81,25 @@ abbrev pub SpellsBitRange : ℕ → ℕ → ℕ → Grammar
 SpellsBitRange depth high low =
     Where ((high < 2 ^ 8) × (low < 2 ^ 8)) (Bracketed (codes "[") (codes "]") depth (λ _. Num high ⨟ Sign (codes ":") ⨟ Num low))
 
+-- the two bits together
+abbrev pub SpellsSlice : ℕ → ℕ × ℕ → Grammar
+SpellsSlice depth range = SpellsBitRange depth range.0 range.1
+
 -- '(' bits ')'
 abbrev pub SpellsCast : ℕ → ℕ → Grammar
 SpellsCast depth width = Bracketed (codes "(") (codes ")") depth (λ _. SpellsBits width)
+
+-- a reader of one form of place
+abbrev pub ReadsPlace : {I : Type 0} → (I → Lval) → ℕ → Reader → Reader → Result Lval SyntaxError → Type 0
+ReadsPlace made depth before after result = ReadsLineMade EndsIndex SpellsLval itself made depth before after result
+
+-- '(' ')' stands for nothing
+abbrev pub SpellsCallEnd : ℕ → Unit {0} → Grammar
+SpellsCallEnd depth none = SpellsNoArguments depth
+
+-- NUMBER ',' of a hash, and ',' MODULUS
+abbrev pub SpellsHashNumber : Amount → Grammar
+SpellsHashNumber number = SpellsAmount number ⨟ Sign (codes ",")
+
+abbrev pub SpellsHashModulus : Amount → Grammar
+SpellsHashModulus modulus = Sign (codes ",") ⨟ SpellsAmount modulus

@@ -1,7 +1,7 @@
 -- Where one of the two numbers of a reader is passed, that of brackets or that of operators in an expression; this project's own.
 use Rattle.std.specs.Prelude.{◌≡◌, ℕ, ◌+◌, ◌<◌, ◌≤◌, Bool, true, false, List, [], ◌++◌, codes, ◌⊎◌}
 use Rattle.elastic_ast.specs.declared.statements.Amount.{Amount}
-use Rattle.elastic_ast.specs.Operators.{Operator}
+use Rattle.elastic_ast.specs.OperatorSorts.{Operator}
 use Rattle.elastic_ast.specs.Tree.{PlainExpr}
 use Rattle.spelling.specs.Words.{Word}
 use Rattle.spelling.specs.Grammar.{Grammar, ◌⨟◌, Begins, IsNamed, Named, Sign}

@@ -1,6 +1,6 @@
 -- What stands next where an expression of a level may end or go on, this project's own.
 use Rattle.std.specs.Prelude.{◌≡◌, ℕ, ◌<◌, ◌≤◌, IsTrue, List, codes, drop}
-use Rattle.elastic_ast.specs.Operators.{Operator, ShiftDown, NoOperator}
+use Rattle.elastic_ast.specs.OperatorSorts.{Operator, ShiftDown, NoOperator}
 use Rattle.spelling.specs.Words.{Word}
 use Rattle.spelling.specs.Grammar.{Begins, BeginTouching, IsSign, IsNamed, IsReserved, is_number}
 use Rattle.spelling.specs.Reading.{Takes}
@@ -51,3 +51,8 @@ StandsCast ws = Begins (IsSign (codes "(")) ws × Begins (IsReserved (codes "bit
 -- a slice goes on here, `[` and a number
 abbrev pub StandsSlice : List Word → Type 0
 StandsSlice ws = Begins (IsSign (codes "[")) ws × Begins (λ word. IsTrue (is_number word.kind)) (drop 1 ws)
+
+-- nothing stands first with which an expression of a level goes on: no operator of the level or of a stronger one, and no slice
+pub record GoesNoFurther (level : ℕ) (ws : List Word) : Type 0 where
+  pub operators : (operator : Operator) → 0 < level_of operator → level_of operator ≤ level → Stands operator ws → ⊥
+  pub slice : StandsSlice ws → ⊥

@@ -1,14 +1,11 @@
 //! The forms of primary expressions, by the words that begin them.
 
-ghost use Rattle.std.specs.Prelude.{◌≡◌, ◌↔◌, ℕ, List, IsTrue, codes};
-ghost use Rattle.elastic_ast.specs.Tree.{PlainExpr};
-ghost use Rattle.spelling.specs.Words.{Word};
-ghost use Rattle.spelling.specs.Grammar.{Begins, IsNamed};
-ghost use Rattle.spelling.specs.Reading.{ahead, MayTake};
-ghost use Rattle.p4_expr.specs.Standing.{EndsBase, StandsTest, StandsHash, StandsCast, StandsSlice};
-ghost use Rattle.p4_expr.specs.Bases.{SpellsOwn, SpellsInBrackets, form_of};
+ghost use Rattle.std.specs.Prelude.{◌≡◌, ◌↔◌, IsTrue};
+ghost use Rattle.spelling.specs.Reading.{ahead};
+ghost use Rattle.p4_expr.specs.Readings.{BeginsName, BeginsTest, TellsBrackets, TellsOwn};
+ghost use Rattle.p4_expr.specs.Readings.{TellsOwnWhere};
+ghost use Rattle.p4_expr.specs.Standing.{StandsCast, StandsHash, StandsSlice, StandsTest};
 
-use p4_lexer::Kind;
 use spelling::Reader;
 
 /// The form of a primary expression without the slices behind it.
@@ -26,10 +23,10 @@ pub enum Form {
 
 /// The form of the primary expression that may stand next; Other where none does.
 pub fn form_ahead(reader: &Reader<'_>) -> Form
-    ensures own { (depth : ℕ) (e : PlainExpr) (rest : List Word) → MayTake (SpellsOwn depth e) (ahead reader.now) rest → EndsBase rest → result ≡ form_of e }
-    ensures bracketed { (depth : ℕ) (e : PlainExpr) (rest : List Word) → MayTake (SpellsInBrackets depth e) (ahead reader.now) rest → result ≡ Form.Bracketed }
+    ensures own { TellsOwn (ahead reader.now) result }
+    ensures bracketed { TellsBrackets (ahead reader.now) result }
     ensures hash { result ≡ Form.Hash → StandsHash (ahead reader.now) }
-    ensures test { result ≡ Form.Validity → Begins (IsNamed (codes "hdr")) (ahead reader.now) × StandsTest (ahead reader.now) }
+    ensures test { result ≡ Form.Validity → BeginsTest (ahead reader.now) }
 {
     if reader.is_at_any_name() {
         return name_form(reader);
@@ -51,9 +48,9 @@ pub fn form_ahead(reader: &Reader<'_>) -> Form
 
 /// The form of what begins with the name that stands next.
 fn name_form(reader: &Reader<'_>) -> Form
-    ensures own { (depth : ℕ) (e : PlainExpr) (rest : List Word) → MayTake (SpellsOwn depth e) (ahead reader.now) rest → EndsBase rest → Begins (λ word. word.kind ≡ Kind.Name) (ahead reader.now) → result ≡ form_of e }
+    ensures own { TellsOwnWhere BeginsName (ahead reader.now) result }
     ensures hash { result ≡ Form.Hash → StandsHash (ahead reader.now) }
-    ensures test { result ≡ Form.Validity → Begins (IsNamed (codes "hdr")) (ahead reader.now) × StandsTest (ahead reader.now) }
+    ensures test { result ≡ Form.Validity → BeginsTest (ahead reader.now) }
 {
     if is_at_hash(reader) {
         return Form::Hash;

@@ -9,12 +9,10 @@ mod operators;
 mod parts;
 mod pieces;
 mod reading;
-#[cfg(test)]
-mod tests;
 
 pub use depth_laws::{law_of_greater_depths, law_of_open_brackets};
 pub use examples::{
-    at_most_64_operators_are_few, examples_are_spelled, more_examples_are_spelled,
+    examples_are_spelled, more_examples_are_spelled, most_operators_are_few,
     operators_stand_at_their_levels, parted_signs_are_no_operator,
 };
 pub use level_laws::law_of_levels;

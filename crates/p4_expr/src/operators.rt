@@ -1,8 +1,9 @@
 //! The operators, by their levels.
 
-ghost use Rattle.std.specs.Prelude.{◌≡◌, IfSome, None};
+ghost use Rattle.std.specs.Prelude.{◌≡◌, None};
 ghost use Rattle.spelling.specs.Reading.{ahead};
-ghost use Rattle.p4_expr.specs.Standing.{Passes, NoneStands};
+ghost use Rattle.p4_expr.specs.Standing.{NoneStands};
+ghost use Rattle.p4_expr.specs.Readings.{PassesOperator};
 
 use spelling::Reader;
 
@@ -33,7 +34,7 @@ macro_rules! by_level {
 
 /// Goes over an operator of a level where one stands next, and gives its code. Else the reader stays.
 pub fn operator(reader: &mut Reader<'_>, level: u8) -> Option<u16>
-    ensures taken { IfSome result (λ code. Passes level code (ahead reader.old) (ahead reader.new)) }
+    ensures taken { PassesOperator level reader.old reader.new result }
     ensures left { result ≡ None → reader.new ≡ reader.old }
     ensures none { result ≡ None → NoneStands level (ahead reader.old) }
 {

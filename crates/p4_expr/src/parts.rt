@@ -1,27 +1,24 @@
 //! The parts of expressions and statements that have no expression in them.
 
-ghost use Rattle.std.specs.Prelude.{◌≡◌, ℕ, ◌≤◌, false, IsTrue, List, Option, codes, drop, IfErr, IfOk, OnOk};
-ghost use Rattle.elastic_ast.specs.declared.statements.Amount.{Amount};
-ghost use Rattle.elastic_ast.specs.declared.statements.Lval.{Lval};
+ghost use Rattle.std.specs.Prelude.{◌≡◌, ℕ, false, IsTrue, codes, drop};
 ghost use Rattle.elastic_ast.specs.declared.statements.Lval.TheVariants as Lval;
-ghost use Rattle.elastic_ast.specs.declared.statements.RegRef.{RegRef};
-ghost use Rattle.spelling.specs.Words.{Word};
-ghost use Rattle.spelling.specs.Grammar.{Begins, IsSign, is_number};
-ghost use Rattle.spelling.specs.Reading.{ahead, Takes, MayTake, IsAnswer, IsReading};
-ghost use Rattle.spelling.specs.Bounds.{IfTooDeep, IsNeverDeep, Line, OpensNext, Stops};
-ghost use Rattle.p4_expr.specs.GoesOn.{EndsIndex};
-ghost use Rattle.p4_expr.specs.Parts.{SpellsNumber, SpellsBits, SpellsAmount, SpellsIndex, SpellsHeader, SpellsNoArguments, SpellsLval, SpellsRegister};
+ghost use Rattle.spelling.specs.Grammar.{Begins, IsSign, Named};
+ghost use Rattle.spelling.specs.Reading.{ahead};
+ghost use Rattle.spelling.specs.Readers.{InSquare, itself, Reads, ReadsLine, ReadsLineBefore};
+ghost use Rattle.spelling.specs.Readers.{ReadsLineUpTo};
+ghost use Rattle.p4_expr.specs.GoesOn.{BeginsNumber, EndsIndex};
+ghost use Rattle.p4_expr.specs.Parts.{SpellsAmount, SpellsAnyNumber, SpellsBits, SpellsHeader};
+ghost use Rattle.p4_expr.specs.Parts.{SpellsCallEnd, SpellsIndex, SpellsLval, SpellsRegister};
+ghost use Rattle.p4_expr.specs.Parts.{ReadsPlace, a_header_place, a_meta_place};
 
 use elastic_ast::{Amount, Lval, RegRef};
 use elx_bits::Name;
-use spelling::{Reader, SyntaxError};
+use spelling::{Reader, SyntaxError, in_brackets};
 use std::alloc::Global;
 
 /// Reads a number, and its width where it has one. NotProgram where the next token is none.
 pub fn number(reader: &mut Reader<'_>) -> Result<(Option<u8>, u128), SyntaxError>
-    ensures taken { IfOk result (λ number. Takes (SpellsNumber number.0 number.1) (ahead reader.old) (ahead reader.new)) }
-    ensures only { (width : Option ℕ) (value : ℕ) (rest : List Word) → MayTake (SpellsNumber width value) (ahead reader.old) rest → IsAnswer (λ read. read) (width, value) rest (ahead reader.new) result }
-    ensures shallow { IfErr result IsNeverDeep }
+    ensures { Reads SpellsAnyNumber itself reader.old reader.new result }
 {
     let (width, value) = reader.any_number()?;
     Ok((width, value))
@@ -29,9 +26,7 @@ pub fn number(reader: &mut Reader<'_>) -> Result<(Option<u8>, u128), SyntaxError
 
 /// `bit<WIDTH>`: its width. NotProgram where something else follows, or the width is above 255.
 pub fn bits(reader: &mut Reader<'_>) -> Result<u8, SyntaxError>
-    ensures taken { IfOk result (λ width. Takes (SpellsBits width) (ahead reader.old) (ahead reader.new)) }
-    ensures only { (width : ℕ) (rest : List Word) → MayTake (SpellsBits width) (ahead reader.old) rest → IsAnswer (λ read. read) width rest (ahead reader.new) result }
-    ensures shallow { IfErr result IsNeverDeep }
+    ensures { Reads SpellsBits itself reader.old reader.new result }
 {
     reader.reserved(b"bit")?;
     reader.sign(b"<")?;
@@ -43,9 +38,7 @@ pub fn bits(reader: &mut Reader<'_>) -> Result<u8, SyntaxError>
 /// Reads a number without a width or the name of a symbol or an index. NotProgram where neither follows, or the number is
 /// above 4294967295.
 pub fn amount(alloc: Global, reader: &mut Reader<'_>) -> Result<Amount, SyntaxError>
-    ensures taken { IfOk result (λ amount. Takes (SpellsAmount amount) (ahead reader.old) (ahead reader.new)) }
-    ensures only { (amount : Amount) (rest : List Word) → MayTake (SpellsAmount amount) (ahead reader.old) rest → IsAnswer (λ read. read) amount rest (ahead reader.new) result }
-    ensures shallow { IfErr result IsNeverDeep }
+    ensures { Reads SpellsAmount itself reader.old reader.new result }
 {
     if !reader.is_at_number() {
         let name = reader.name(alloc)?;
@@ -62,24 +55,25 @@ pub fn index(
     reader: &mut Reader<'_>,
     depth: u32,
 ) -> Result<Option<Name>, SyntaxError>
-    ensures taken { IfOk result (λ index. MayTake (SpellsIndex depth index) (ahead reader.old) (ahead reader.new)) }
-    ensures only { (more : ℕ) (index : Option (List ℕ)) (rest : List Word) → MayTake (SpellsIndex more index) (ahead reader.old) rest → EndsIndex rest → IsReading (more ≤ depth) (λ read. read) index rest (ahead reader.new) result }
-    ensures deep { IfErr result (IfTooDeep (Stops (Line depth) OpensNext (ahead reader.old) (ahead reader.new))) }
+    ensures { ReadsLineUpTo EndsIndex SpellsIndex itself depth reader.old reader.new result }
 {
     if !is_at_index(reader) {
         return Ok(None);
     }
-    let _inner = reader.open(b"[", depth)?;
-    let name = reader.name(alloc)?;
-    reader.sign(b"]")?;
+    let name = index_name(alloc, reader, depth)?;
     Ok(Some(name))
+}
+
+/// `[NAME]`
+fn index_name(alloc: Global, reader: &mut Reader<'_>, depth: u32) -> Result<Name, SyntaxError>
+    ensures { ReadsLine (InSquare (λ _. Named)) itself depth reader.old reader.new result }
+{
+    in_brackets(reader, b"[", b"]", depth, |reader, _| reader.name(alloc))
 }
 
 /// `hdr.NAME`: the name of the header.
 pub fn header(alloc: Global, reader: &mut Reader<'_>) -> Result<Name, SyntaxError>
-    ensures taken { IfOk result (λ name. Takes (SpellsHeader name) (ahead reader.old) (ahead reader.new)) }
-    ensures only { (name : List ℕ) (rest : List Word) → MayTake (SpellsHeader name) (ahead reader.old) rest → IsAnswer (λ read. read) name rest (ahead reader.new) result }
-    ensures shallow { IfErr result IsNeverDeep }
+    ensures { Reads SpellsHeader itself reader.old reader.new result }
 {
     reader.fixed_name(b"hdr")?;
     reader.sign(b".")?;
@@ -89,9 +83,7 @@ pub fn header(alloc: Global, reader: &mut Reader<'_>) -> Result<Name, SyntaxErro
 
 /// `()`. `depth` is how many brackets may be open from here on.
 pub fn no_arguments(reader: &mut Reader<'_>, depth: u32) -> Result<(), SyntaxError>
-    ensures taken { OnOk result (Takes (SpellsNoArguments depth) (ahead reader.old) (ahead reader.new)) }
-    ensures only { (more : ℕ) (rest : List Word) → MayTake (SpellsNoArguments more) (ahead reader.old) rest → IsReading (more ≤ depth) (λ read. read) tt rest (ahead reader.new) result }
-    ensures deep { IfErr result (IfTooDeep (Stops (Line depth) OpensNext (ahead reader.old) (ahead reader.new))) }
+    ensures { ReadsLine SpellsCallEnd itself depth reader.old reader.new result }
 {
     let _inner = reader.open(b"(", depth)?;
     reader.sign(b")")?;
@@ -101,9 +93,7 @@ pub fn no_arguments(reader: &mut Reader<'_>, depth: u32) -> Result<(), SyntaxErr
 /// Reads a place that a statement may assign to: `hdr.HEADER.FIELD`, `meta.NAME`, `meta.NAME[INDEX]` or `std.NAME`. `depth` is
 /// how many brackets may be open from here on.
 pub fn lval(alloc: Global, reader: &mut Reader<'_>, depth: u32) -> Result<Lval, SyntaxError>
-    ensures taken { IfOk result (λ lval. Takes (SpellsLval depth lval) (ahead reader.old) (ahead reader.new)) }
-    ensures only { (more : ℕ) (lval : Lval) (rest : List Word) → MayTake (SpellsLval more lval) (ahead reader.old) rest → EndsIndex rest → IsReading (more ≤ depth) (λ read. read) lval rest (ahead reader.new) result }
-    ensures deep { IfErr result (IfTooDeep (Stops (Line depth) OpensNext (ahead reader.old) (ahead reader.new))) }
+    ensures { ReadsLineBefore EndsIndex SpellsLval itself depth reader.old reader.new result }
 {
     if reader.is_at_name(b"meta") {
         return meta_place(alloc, reader, depth);
@@ -117,9 +107,7 @@ pub fn lval(alloc: Global, reader: &mut Reader<'_>, depth: u32) -> Result<Lval, 
 /// Reads a register, or the register of an array at an index: `NAME` or `NAME[INDEX]`. `depth` is how many brackets may be open
 /// from here on.
 pub fn register(alloc: Global, reader: &mut Reader<'_>, depth: u32) -> Result<RegRef, SyntaxError>
-    ensures taken { IfOk result (λ register. Takes (SpellsRegister depth register) (ahead reader.old) (ahead reader.new)) }
-    ensures only { (more : ℕ) (register : RegRef) (rest : List Word) → MayTake (SpellsRegister more register) (ahead reader.old) rest → EndsIndex rest → IsReading (more ≤ depth) (λ read. read) register rest (ahead reader.new) result }
-    ensures deep { IfErr result (IfTooDeep (Stops (Line depth) OpensNext (ahead reader.old) (ahead reader.new))) }
+    ensures { ReadsLineBefore EndsIndex SpellsRegister itself depth reader.old reader.new result }
 {
     let name = reader.name(alloc)?;
     let index = index(alloc, reader, depth)?;
@@ -130,16 +118,14 @@ pub fn register(alloc: Global, reader: &mut Reader<'_>, depth: u32) -> Result<Re
 fn is_at_index(reader: &Reader<'_>) -> bool
     ensures at { IsTrue result → Begins (IsSign (codes "[")) (ahead reader.now) }
     ensures none { result ≡ false → EndsIndex (ahead reader.now) }
-    ensures not_number { IsTrue result → Begins (λ word. IsTrue (is_number word.kind)) (drop 1 (ahead reader.now)) → ⊥ }
+    ensures not_number { IsTrue result → BeginsNumber (drop 1 (ahead reader.now)) → ⊥ }
 {
     reader.is_at_sign(b"[") && !reader.later(1).is_at_number()
 }
 
 /// `meta.NAME` or `meta.NAME[INDEX]`
 fn meta_place(alloc: Global, reader: &mut Reader<'_>, depth: u32) -> Result<Lval, SyntaxError>
-    ensures taken { IfOk result (λ lval. Takes (SpellsLval depth lval) (ahead reader.old) (ahead reader.new)) }
-    ensures only { (more : ℕ) (name : List ℕ) (index : Option (List ℕ)) (rest : List Word) → MayTake (SpellsLval more (Lval.Meta name index)) (ahead reader.old) rest → EndsIndex rest → IsReading (more ≤ depth) (λ read. read) (Lval.Meta name index) rest (ahead reader.new) result }
-    ensures deep { IfErr result (IfTooDeep (Stops (Line depth) OpensNext (ahead reader.old) (ahead reader.new))) }
+    ensures { ReadsPlace a_meta_place depth reader.old reader.new result }
 {
     reader.fixed_name(b"meta")?;
     reader.sign(b".")?;
@@ -150,9 +136,7 @@ fn meta_place(alloc: Global, reader: &mut Reader<'_>, depth: u32) -> Result<Lval
 
 /// `std.NAME`
 fn std_place(alloc: Global, reader: &mut Reader<'_>) -> Result<Lval, SyntaxError>
-    ensures taken { IfOk result (λ lval. (depth : ℕ) → Takes (SpellsLval depth lval) (ahead reader.old) (ahead reader.new)) }
-    ensures only { (more : ℕ) (name : List ℕ) (rest : List Word) → MayTake (SpellsLval more (Lval.Std name)) (ahead reader.old) rest → IsAnswer (λ read. read) (Lval.Std name) rest (ahead reader.new) result }
-    ensures shallow { IfErr result IsNeverDeep }
+    ensures { (depth : ℕ) → ReadsPlace Lval.Std depth reader.old reader.new result }
 {
     reader.fixed_name(b"std")?;
     reader.sign(b".")?;
@@ -162,9 +146,7 @@ fn std_place(alloc: Global, reader: &mut Reader<'_>) -> Result<Lval, SyntaxError
 
 /// `hdr.HEADER.FIELD`
 fn header_place(alloc: Global, reader: &mut Reader<'_>) -> Result<Lval, SyntaxError>
-    ensures taken { IfOk result (λ lval. (depth : ℕ) → Takes (SpellsLval depth lval) (ahead reader.old) (ahead reader.new)) }
-    ensures only { (more : ℕ) (header field : List ℕ) (rest : List Word) → MayTake (SpellsLval more (Lval.Header header field)) (ahead reader.old) rest → IsAnswer (λ read. read) (Lval.Header header field) rest (ahead reader.new) result }
-    ensures shallow { IfErr result IsNeverDeep }
+    ensures { (depth : ℕ) → ReadsPlace a_header_place depth reader.old reader.new result }
 {
     let header = header(alloc, reader)?;
     reader.sign(b".")?;

@@ -1,26 +1,23 @@
 //! The pieces of expressions that have no expression in them, and the making of trees.
 
-ghost use Rattle.std.specs.Prelude.{◌≡◌, ◌≤◌, ℕ, Bool, List, IfOk, IfErr, codes};
+ghost use Rattle.std.specs.Prelude.{◌≡◌, IfOk, IfErr};
 ghost use Rattle.elastic_ast.specs.Seen.{seen_expr};
 ghost use Rattle.elastic_ast.specs.Tree.{PlainExpr};
-ghost use Rattle.elastic_ast.specs.declared.statements.Amount.{Amount};
-ghost use Rattle.spelling.specs.Words.{Word};
-ghost use Rattle.spelling.specs.Grammar.{◌⨟◌, Sign};
-ghost use Rattle.spelling.specs.Reading.{ahead, Takes, MayTake, IsAnswer, IsReading, IsWant};
-ghost use Rattle.spelling.specs.Bounds.{IfTooDeep, IsNeverDeep, Line, OpensNext, Stops};
-ghost use Rattle.p4_expr.specs.Parts.{SpellsAmount, SpellsTruth, SpellsIsValid, SpellsBitRange, SpellsCast};
+ghost use Rattle.spelling.specs.Reading.{IsWant};
+ghost use Rattle.spelling.specs.Readers.{itself, Reads, ReadsLine};
+ghost use Rattle.p4_expr.specs.Readings.{Makes};
+ghost use Rattle.p4_expr.specs.Parts.{SpellsCast, SpellsHashModulus, SpellsHashNumber};
+ghost use Rattle.p4_expr.specs.Parts.{SpellsIsValid, SpellsSlice, SpellsTruth};
 
 use crate::parts::{amount, bits, header, no_arguments};
 use elastic_ast::{Amount, Expr};
 use elx_bits::Name;
-use spelling::{Reader, SyntaxError};
+use spelling::{Reader, SyntaxError, in_brackets};
 use std::alloc::Global;
 
 /// `true` or `false`
 pub fn truth(reader: &mut Reader<'_>) -> Result<bool, SyntaxError>
-    ensures taken { IfOk result (λ which. Takes (SpellsTruth which) (ahead reader.old) (ahead reader.new)) }
-    ensures only { (which : Bool) (rest : List Word) → MayTake (SpellsTruth which) (ahead reader.old) rest → IsAnswer (λ read. read) which rest (ahead reader.new) result }
-    ensures shallow { IfErr result IsNeverDeep }
+    ensures { Reads SpellsTruth itself reader.old reader.new result }
 {
     if reader.is_at_reserved(b"true") {
         reader.reserved(b"true")?;
@@ -32,21 +29,14 @@ pub fn truth(reader: &mut Reader<'_>) -> Result<bool, SyntaxError>
 
 /// `(bit<WIDTH>)`: the width. `depth` is how many brackets may be open from here on.
 pub fn cast(reader: &mut Reader<'_>, depth: u32) -> Result<u8, SyntaxError>
-    ensures taken { IfOk result (λ width. Takes (SpellsCast depth width) (ahead reader.old) (ahead reader.new)) }
-    ensures only { (more width : ℕ) (rest : List Word) → MayTake (SpellsCast more width) (ahead reader.old) rest → IsReading (more ≤ depth) (λ read. read) width rest (ahead reader.new) result }
-    ensures deep { IfErr result (IfTooDeep (Stops (Line depth) OpensNext (ahead reader.old) (ahead reader.new))) }
+    ensures { ReadsLine SpellsCast itself depth reader.old reader.new result }
 {
-    let _inner = reader.open(b"(", depth)?;
-    let width = bits(reader)?;
-    reader.sign(b")")?;
-    Ok(width)
+    in_brackets(reader, b"(", b")", depth, |reader, _| bits(reader))
 }
 
 /// `[HIGH:LOW]`: the two bits. `depth` is how many brackets may be open from here on.
 pub fn bit_range(reader: &mut Reader<'_>, depth: u32) -> Result<(u8, u8), SyntaxError>
-    ensures taken { IfOk result (λ range. Takes (SpellsBitRange depth range.0 range.1) (ahead reader.old) (ahead reader.new)) }
-    ensures only { (more high low : ℕ) (rest : List Word) → MayTake (SpellsBitRange more high low) (ahead reader.old) rest → IsReading (more ≤ depth) (λ read. read) (high, low) rest (ahead reader.new) result }
-    ensures deep { IfErr result (IfTooDeep (Stops (Line depth) OpensNext (ahead reader.old) (ahead reader.new))) }
+    ensures { ReadsLine SpellsSlice itself depth reader.old reader.new result }
 {
     let _inner = reader.open(b"[", depth)?;
     let high = reader.number(255)?;
@@ -58,9 +48,7 @@ pub fn bit_range(reader: &mut Reader<'_>, depth: u32) -> Result<(u8, u8), Syntax
 
 /// `hdr.NAME.isValid()`: the name of the header. `depth` is how many brackets may be open from here on.
 pub fn validity(alloc: Global, reader: &mut Reader<'_>, depth: u32) -> Result<Name, SyntaxError>
-    ensures taken { IfOk result (λ name. Takes (SpellsIsValid depth name) (ahead reader.old) (ahead reader.new)) }
-    ensures only { (more : ℕ) (name : List ℕ) (rest : List Word) → MayTake (SpellsIsValid more name) (ahead reader.old) rest → IsReading (more ≤ depth) (λ read. read) name rest (ahead reader.new) result }
-    ensures deep { IfErr result (IfTooDeep (Stops (Line depth) OpensNext (ahead reader.old) (ahead reader.new))) }
+    ensures { ReadsLine SpellsIsValid itself depth reader.old reader.new result }
 {
     let name = header(alloc, reader)?;
     reader.sign(b".")?;
@@ -71,9 +59,7 @@ pub fn validity(alloc: Global, reader: &mut Reader<'_>, depth: u32) -> Result<Na
 
 /// `NUMBER,` of a hash
 pub fn hash_number(alloc: Global, reader: &mut Reader<'_>) -> Result<Amount, SyntaxError>
-    ensures taken { IfOk result (λ number. Takes (SpellsAmount number ⨟ Sign (codes ",")) (ahead reader.old) (ahead reader.new)) }
-    ensures only { (number : Amount) (rest : List Word) → MayTake (SpellsAmount number ⨟ Sign (codes ",")) (ahead reader.old) rest → IsAnswer (λ read. read) number rest (ahead reader.new) result }
-    ensures shallow { IfErr result IsNeverDeep }
+    ensures { Reads SpellsHashNumber itself reader.old reader.new result }
 {
     let number = amount(alloc, reader)?;
     reader.sign(b",")?;
@@ -82,9 +68,7 @@ pub fn hash_number(alloc: Global, reader: &mut Reader<'_>) -> Result<Amount, Syn
 
 /// `, MODULUS` of a hash
 pub fn hash_modulus(alloc: Global, reader: &mut Reader<'_>) -> Result<Amount, SyntaxError>
-    ensures taken { IfOk result (λ modulus. Takes (Sign (codes ",") ⨟ SpellsAmount modulus) (ahead reader.old) (ahead reader.new)) }
-    ensures only { (modulus : Amount) (rest : List Word) → MayTake (Sign (codes ",") ⨟ SpellsAmount modulus) (ahead reader.old) rest → IsAnswer (λ read. read) modulus rest (ahead reader.new) result }
-    ensures shallow { IfErr result IsNeverDeep }
+    ensures { Reads SpellsHashModulus itself reader.old reader.new result }
 {
     reader.sign(b",")?;
     amount(alloc, reader)
@@ -102,7 +86,7 @@ fn boxed(alloc: Global, e: Expr) -> Result<Box<Expr>, SyntaxError>
 
 /// The operand of an operator with it before it.
 pub fn unary(alloc: Global, op: u16, of: Expr) -> Result<Expr, SyntaxError>
-    ensures made { IfOk result (λ e. seen_expr e ≡ PlainExpr.Unary op (seen_expr of)) }
+    ensures made { Makes (PlainExpr.Unary op (seen_expr of)) result }
     ensures memory { IfErr result IsWant }
 {
     let of = boxed(alloc, of)?;
@@ -111,7 +95,7 @@ pub fn unary(alloc: Global, op: u16, of: Expr) -> Result<Expr, SyntaxError>
 
 /// Two operands with an operator between them.
 pub fn binary(alloc: Global, op: u16, left: Expr, right: Expr) -> Result<Expr, SyntaxError>
-    ensures made { IfOk result (λ e. seen_expr e ≡ PlainExpr.Binary op (seen_expr left) (seen_expr right)) }
+    ensures made { Makes (PlainExpr.Binary op (seen_expr left) (seen_expr right)) result }
     ensures memory { IfErr result IsWant }
 {
     let left = boxed(alloc, left)?;
@@ -121,7 +105,7 @@ pub fn binary(alloc: Global, op: u16, left: Expr, right: Expr) -> Result<Expr, S
 
 /// An expression that is brought to a width.
 pub fn casted(alloc: Global, width: u8, of: Expr) -> Result<Expr, SyntaxError>
-    ensures made { IfOk result (λ e. seen_expr e ≡ PlainExpr.Cast width (seen_expr of)) }
+    ensures made { Makes (PlainExpr.Cast width (seen_expr of)) result }
     ensures memory { IfErr result IsWant }
 {
     let of = boxed(alloc, of)?;
@@ -130,7 +114,7 @@ pub fn casted(alloc: Global, width: u8, of: Expr) -> Result<Expr, SyntaxError>
 
 /// Some bits of an expression.
 pub fn slice(alloc: Global, of: Expr, high: u8, low: u8) -> Result<Expr, SyntaxError>
-    ensures made { IfOk result (λ e. seen_expr e ≡ PlainExpr.Slice (seen_expr of) high low) }
+    ensures made { Makes (PlainExpr.Slice (seen_expr of) high low) result }
     ensures memory { IfErr result IsWant }
 {
     let of = boxed(alloc, of)?;
@@ -139,7 +123,7 @@ pub fn slice(alloc: Global, of: Expr, high: u8, low: u8) -> Result<Expr, SyntaxE
 
 /// A hash of an expression.
 pub fn hash(alloc: Global, number: Amount, of: Expr, modulus: Amount) -> Result<Expr, SyntaxError>
-    ensures made { IfOk result (λ e. seen_expr e ≡ PlainExpr.Hash number (seen_expr of) modulus) }
+    ensures made { Makes (PlainExpr.Hash number (seen_expr of) modulus) result }
     ensures memory { IfErr result IsWant }
 {
     let of = boxed(alloc, of)?;

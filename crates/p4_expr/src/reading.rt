@@ -1,20 +1,18 @@
 //! The reader of expressions.
 
-ghost use Rattle.std.specs.Prelude.{◌≡◌, ℕ, ◌+◌, ◌≤◌, List, IfOk, IfErr, codes, drop, length};
+ghost use Rattle.std.specs.Prelude.{◌≡◌, ◌≤◌, IfOk, IfErr, length};
 ghost use Rattle.elastic_ast.specs.Seen.{seen_expr};
-ghost use Rattle.elastic_ast.specs.Tree.{PlainExpr};
-ghost use Rattle.spelling.specs.Words.{Word, words};
-ghost use Rattle.spelling.specs.Grammar.{Begins, IsNamed};
-ghost use Rattle.spelling.specs.Reading.{ahead, Takes, MayTake, Ends, IsReading, NamesAtMost};
-ghost use Rattle.spelling.specs.Bounds.{IfTooDeep, IfTooDeepAt, PassedAt};
-ghost use Rattle.p4_expr.specs.Operators.{operators_in};
-ghost use Rattle.p4_expr.specs.Parts.{SpellsIsValid};
-ghost use Rattle.p4_expr.specs.Expressions.{SpellsExpr, SpellsLevel, SpellsPrefixed, SpellsPrimary, HasFewOperators, most_operators};
-ghost use Rattle.p4_expr.specs.GoesOn.{expression_signs, EndsIndex};
-ghost use Rattle.p4_expr.specs.Standing.{EndsBase, EndsLevel, StandsHash, StandsTest};
-ghost use Rattle.p4_expr.specs.Bases.{SpellsOwn, SpellsInBrackets, SpellsBase, form_of};
-ghost use Rattle.p4_expr.specs.ExprAt.{IsExpr};
-ghost use Rattle.p4_expr.specs.Passing.{ExprPassed};
+ghost use Rattle.spelling.specs.Reading.{ahead, NamesAtMost};
+ghost use Rattle.p4_expr.specs.Operators.{weakest};
+ghost use Rattle.p4_expr.specs.Expressions.{HasFewOperators, SpellsLevel, SpellsPrefixed};
+ghost use Rattle.p4_expr.specs.Expressions.{SpellsPrimary};
+ghost use Rattle.p4_expr.specs.Standing.{EndsBase, EndsLevel, GoesNoFurther};
+ghost use Rattle.p4_expr.specs.Bases.{SpellsBase, SpellsInBrackets, SpellsOwn};
+ghost use Rattle.p4_expr.specs.Readings.{CountsOperators, GoesNoFurtherAt, ReadsExprAt};
+ghost use Rattle.p4_expr.specs.Readings.{ReadsForm, ReadsHash, ReadsInBrackets, ReadsLevel};
+ghost use Rattle.p4_expr.specs.Readings.{ReadsOnly, ReadsTest, ReadsWhole, RefusesExprAt};
+ghost use Rattle.p4_expr.specs.Readings.{RefusesForm, RefusesHash, RefusesPast, RefusesTest};
+ghost use Rattle.p4_expr.specs.Readings.{RefusesWhole, TakesExpr, TakesExprAt, TakesWhole};
 
 use crate::forms::{Form, form_ahead, is_at_cast, is_at_slice};
 use crate::operators::operator;
@@ -37,8 +35,8 @@ const MOST_OPERATORS: u32 = 64;
 /// Takes the text in bytes, its tokens, and how many brackets may be open at a token.
 ///
 /// NotProgram names the token at which the reading stopped: what stands before it is no expression, and doesn't go on there.
-/// TooDeep names a token that opens a bracket where `most_depth` stand open before it, or begins an operator where 64 stand
-/// before it. Memory comes only for want of memory.
+/// TooDeep names a token that opens a bracket where `most_depth` stand open before it, or begins an operator where as many
+/// stand before it as may. Memory comes only for want of memory.
 pub fn expr(
     alloc: Global,
     text: &[u8],
@@ -46,11 +44,12 @@ pub fn expr(
     at: usize,
     most_depth: u32,
 ) -> Result<(Expr, usize), SyntaxError>
-    ensures taken { IfOk result (λ r. Takes (SpellsExpr most_depth (seen_expr r.0)) (words text.now (drop at tokens.now)) (words text.now (drop r.1 tokens.now))) }
+    ensures taken { TakesExprAt most_depth text.now tokens.now at result }
     ensures few { IfOk result (λ r. HasFewOperators (seen_expr r.0)) }
     ensures within { IfOk result (λ r. r.1 ≤ length tokens.now) }
-    ensures only { (more : ℕ) (e : PlainExpr) (rest : List Word) → MayTake (SpellsExpr more e) (words text.now (drop at tokens.now)) rest → Ends expression_signs rest → IsExpr most_depth more e rest text.now tokens.now result }
-    ensures deep { IfErr result (IfTooDeepAt (PassedAt (ExprPassed most_depth most_operators) text.now tokens.now at)) }
+    ensures only { ReadsExprAt most_depth text.now tokens.now at result }
+    ensures whole { IfOk result (λ r. GoesNoFurtherAt weakest text.now tokens.now r.1) }
+    ensures deep { RefusesExprAt most_depth text.now tokens.now at result }
     ensures named { IfErr result (NamesAtMost (length tokens.now)) }
 {
     let mut reader = Reader::from(text, tokens, at);
@@ -62,10 +61,11 @@ pub fn expr(
 
 /// Reads the longest expression that stands next. `depth` is how many brackets may be open from here on.
 pub fn read_expr(alloc: Global, reader: &mut Reader<'_>, depth: u32) -> Result<Expr, SyntaxError>
-    ensures taken { IfOk result (λ e. Takes (SpellsExpr depth (seen_expr e)) (ahead reader.old) (ahead reader.new)) }
+    ensures taken { TakesWhole depth reader.old reader.new result }
     ensures few { IfOk result (λ e. HasFewOperators (seen_expr e)) }
-    ensures only { (more : ℕ) (e : PlainExpr) (rest : List Word) → MayTake (SpellsExpr more e) (ahead reader.old) rest → Ends expression_signs rest → IsReading ((more ≤ depth) × HasFewOperators e) seen_expr e rest (ahead reader.new) result }
-    ensures deep { IfErr result (IfTooDeep (ExprPassed depth most_operators (ahead reader.old) (ahead reader.new))) }
+    ensures only { ReadsWhole depth reader.old reader.new result }
+    ensures whole { IfOk result (λ _. GoesNoFurther weakest (ahead reader.new)) }
+    ensures deep { RefusesWhole depth reader.old reader.new result }
 {
     let (e, _) = level(alloc, reader, depth, MOST_OPERATORS, WEAKEST)?;
     Ok(e)
@@ -80,10 +80,11 @@ fn level(
     left: u32,
     level: u8,
 ) -> Result<(Expr, u32), SyntaxError>
-    ensures taken { IfOk result (λ r. Takes (SpellsLevel depth level (seen_expr r.0)) (ahead reader.old) (ahead reader.new)) }
-    ensures count { IfOk result (λ r. left ≡ operators_in (seen_expr r.0) + r.1) }
-    ensures only { (more : ℕ) (e : PlainExpr) (rest : List Word) → MayTake (SpellsLevel more level e) (ahead reader.old) rest → EndsLevel level rest → IsReading ((more ≤ depth) × (operators_in e ≤ left)) (λ r. seen_expr r.0) e rest (ahead reader.new) result }
-    ensures deep { IfErr result (IfTooDeep (ExprPassed depth left (ahead reader.old) (ahead reader.new))) }
+    ensures taken { TakesExpr (SpellsLevel depth level) reader.old reader.new result }
+    ensures count { CountsOperators left result }
+    ensures only { ReadsLevel level depth left reader.old reader.new result }
+    ensures whole { IfOk result (λ _. GoesNoFurther level (ahead reader.new)) }
+    ensures deep { RefusesPast depth left reader.old reader.new result }
 {
     if level == 0 {
         return prefixed(alloc, reader, depth, left);
@@ -112,10 +113,11 @@ fn prefixed(
     depth: u32,
     left: u32,
 ) -> Result<(Expr, u32), SyntaxError>
-    ensures taken { IfOk result (λ r. Takes (SpellsPrefixed depth (seen_expr r.0)) (ahead reader.old) (ahead reader.new)) }
-    ensures count { IfOk result (λ r. left ≡ operators_in (seen_expr r.0) + r.1) }
-    ensures only { (more : ℕ) (e : PlainExpr) (rest : List Word) → MayTake (SpellsPrefixed more e) (ahead reader.old) rest → EndsLevel 0 rest → IsReading ((more ≤ depth) × (operators_in e ≤ left)) (λ r. seen_expr r.0) e rest (ahead reader.new) result }
-    ensures deep { IfErr result (IfTooDeep (ExprPassed depth left (ahead reader.old) (ahead reader.new))) }
+    ensures taken { TakesExpr (SpellsPrefixed depth) reader.old reader.new result }
+    ensures count { CountsOperators left result }
+    ensures only { ReadsOnly (EndsLevel 0) SpellsPrefixed depth left reader.old reader.new result }
+    ensures whole { IfOk result (λ _. GoesNoFurther 0 (ahead reader.new)) }
+    ensures deep { RefusesPast depth left reader.old reader.new result }
 {
     let mut behind = reader.later(0);
     if let Some(op) = operator(&mut behind, 0) {
@@ -147,10 +149,11 @@ fn primary(
     depth: u32,
     left: u32,
 ) -> Result<(Expr, u32), SyntaxError>
-    ensures taken { IfOk result (λ r. Takes (SpellsPrimary depth (seen_expr r.0)) (ahead reader.old) (ahead reader.new)) }
-    ensures count { IfOk result (λ r. left ≡ operators_in (seen_expr r.0) + r.1) }
-    ensures only { (more : ℕ) (e : PlainExpr) (rest : List Word) → MayTake (SpellsPrimary more e) (ahead reader.old) rest → EndsLevel 0 rest → IsReading ((more ≤ depth) × (operators_in e ≤ left)) (λ r. seen_expr r.0) e rest (ahead reader.new) result }
-    ensures deep { IfErr result (IfTooDeep (ExprPassed depth left (ahead reader.old) (ahead reader.new))) }
+    ensures taken { TakesExpr (SpellsPrimary depth) reader.old reader.new result }
+    ensures count { CountsOperators left result }
+    ensures only { ReadsOnly (EndsLevel 0) SpellsPrimary depth left reader.old reader.new result }
+    ensures whole { IfOk result (λ _. GoesNoFurther 0 (ahead reader.new)) }
+    ensures deep { RefusesPast depth left reader.old reader.new result }
 {
     let (mut e, mut left) = base(alloc, reader, depth, left)?;
     'slices: while is_at_slice(reader) {
@@ -172,10 +175,10 @@ fn base(
     depth: u32,
     left: u32,
 ) -> Result<(Expr, u32), SyntaxError>
-    ensures taken { IfOk result (λ r. Takes (SpellsBase depth (seen_expr r.0)) (ahead reader.old) (ahead reader.new)) }
-    ensures count { IfOk result (λ r. left ≡ operators_in (seen_expr r.0) + r.1) }
-    ensures only { (more : ℕ) (e : PlainExpr) (rest : List Word) → MayTake (SpellsBase more e) (ahead reader.old) rest → EndsBase rest → IsReading ((more ≤ depth) × (operators_in e ≤ left)) (λ r. seen_expr r.0) e rest (ahead reader.new) result }
-    ensures deep { IfErr result (IfTooDeep (ExprPassed depth left (ahead reader.old) (ahead reader.new))) }
+    ensures taken { TakesExpr (SpellsBase depth) reader.old reader.new result }
+    ensures count { CountsOperators left result }
+    ensures only { ReadsOnly EndsBase SpellsBase depth left reader.old reader.new result }
+    ensures deep { RefusesPast depth left reader.old reader.new result }
 {
     match form_ahead(reader) {
         Form::Bracketed => in_brackets(alloc, reader, depth, left),
@@ -192,10 +195,10 @@ fn in_brackets(
     depth: u32,
     left: u32,
 ) -> Result<(Expr, u32), SyntaxError>
-    ensures taken { IfOk result (λ r. Takes (SpellsInBrackets depth (seen_expr r.0)) (ahead reader.old) (ahead reader.new)) }
-    ensures count { IfOk result (λ r. left ≡ operators_in (seen_expr r.0) + r.1) }
-    ensures only { (more : ℕ) (e : PlainExpr) (rest : List Word) → MayTake (SpellsInBrackets more e) (ahead reader.old) rest → IsReading ((more ≤ depth) × (operators_in e ≤ left)) (λ r. seen_expr r.0) e rest (ahead reader.new) result }
-    ensures deep { IfErr result (IfTooDeep (ExprPassed depth left (ahead reader.old) (ahead reader.new))) }
+    ensures taken { TakesExpr (SpellsInBrackets depth) reader.old reader.new result }
+    ensures count { CountsOperators left result }
+    ensures only { ReadsInBrackets depth left reader.old reader.new result }
+    ensures deep { RefusesPast depth left reader.old reader.new result }
 {
     let inner = reader.open(b"(", depth)?;
     let (e, fewer) = level(alloc, reader, inner, left, WEAKEST)?;
@@ -211,10 +214,10 @@ fn hash_of(
     depth: u32,
     left: u32,
 ) -> Result<(Expr, u32), SyntaxError>
-    ensures taken { IfOk result (λ r. Takes (SpellsOwn depth (seen_expr r.0)) (ahead reader.old) (ahead reader.new)) }
-    ensures count { IfOk result (λ r. left ≡ operators_in (seen_expr r.0) + r.1) }
-    ensures only { (more : ℕ) (e : PlainExpr) (rest : List Word) → MayTake (SpellsOwn more e) (ahead reader.old) rest → Form.Hash ≡ form_of e → IsReading ((more ≤ depth) × (operators_in e ≤ left)) (λ r. seen_expr r.0) e rest (ahead reader.new) result }
-    ensures deep { StandsHash (ahead reader.old) → IfErr result (IfTooDeep (ExprPassed depth left (ahead reader.old) (ahead reader.new))) }
+    ensures taken { TakesExpr (SpellsOwn depth) reader.old reader.new result }
+    ensures count { CountsOperators left result }
+    ensures only { ReadsHash depth left reader.old reader.new result }
+    ensures deep { RefusesHash depth left reader.old reader.new result }
 {
     if left == 0 {
         return Err(reader.too_deep());
@@ -237,10 +240,10 @@ fn plain(
     left: u32,
     form: Form,
 ) -> Result<(Expr, u32), SyntaxError>
-    ensures taken { IfOk result (λ r. Takes (SpellsOwn depth (seen_expr r.0)) (ahead reader.old) (ahead reader.new)) }
-    ensures count { IfOk result (λ r. left ≡ operators_in (seen_expr r.0) + r.1) }
-    ensures only { (more : ℕ) (e : PlainExpr) (rest : List Word) → MayTake (SpellsOwn more e) (ahead reader.old) rest → EndsIndex rest → form ≡ form_of e → (form ≡ Form.Hash → ⊥) → IsReading ((more ≤ depth) × (operators_in e ≤ left)) (λ r. seen_expr r.0) e rest (ahead reader.new) result }
-    ensures deep { (form ≡ Form.Validity → Begins (IsNamed (codes "hdr")) (ahead reader.old) × StandsTest (ahead reader.old)) → IfErr result (IfTooDeep (ExprPassed depth left (ahead reader.old) (ahead reader.new))) }
+    ensures taken { TakesExpr (SpellsOwn depth) reader.old reader.new result }
+    ensures count { CountsOperators left result }
+    ensures only { ReadsForm form depth left reader.old reader.new result }
+    ensures deep { RefusesForm form depth left reader.old reader.new result }
 {
     match form {
         Form::Number => {
@@ -271,10 +274,10 @@ fn test_of(
     depth: u32,
     left: u32,
 ) -> Result<(Expr, u32), SyntaxError>
-    ensures taken { IfOk result (λ r. Takes (SpellsOwn depth (seen_expr r.0)) (ahead reader.old) (ahead reader.new)) }
-    ensures count { IfOk result (λ r. left ≡ operators_in (seen_expr r.0) + r.1) }
-    ensures only { (more : ℕ) (header : List ℕ) (rest : List Word) → MayTake (SpellsIsValid more header) (ahead reader.old) rest → IsReading ((more ≤ depth) × (1 ≤ left)) (λ r. seen_expr r.0) (PlainExpr.IsValid header) rest (ahead reader.new) result }
-    ensures deep { Begins (IsNamed (codes "hdr")) (ahead reader.old) × StandsTest (ahead reader.old) → IfErr result (IfTooDeep (ExprPassed depth left (ahead reader.old) (ahead reader.new))) }
+    ensures taken { TakesExpr (SpellsOwn depth) reader.old reader.new result }
+    ensures count { CountsOperators left result }
+    ensures only { ReadsTest depth left reader.old reader.new result }
+    ensures deep { RefusesTest depth left reader.old reader.new result }
 {
     if left == 0 {
         return Err(reader.too_deep());

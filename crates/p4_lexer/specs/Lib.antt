@@ -3,3 +3,5 @@ pub mod Pieces
 pub mod Gaps
 pub mod Tokens
 pub mod BadPlaces
+pub mod OneTokenList
+pub mod Finding

@@ -1,5 +1,6 @@
 ghost use Rattle.std.specs.Prelude.{◌≡◌, ℕ, ◌+◌, ◌*◌, ◌^◌, ◌<◌, ◌≤◌, ◌==◌, IfSome, IfNone, MatchOption, position};
 ghost use Rattle.std.specs.Char.{digit_value};
+ghost use Rattle.p4_lexer.specs.Finding.{IsFound, IsNumberRead, IsSmallInBase, IsTooGreat};
 ghost use Rattle.p4_lexer.specs.Numbers.{IsNumber, IsNoNumber, IsNatural, IsInBase, IsWidth, base_of};
 
 /// The most bits that a width may say.
@@ -7,7 +8,7 @@ const WIDEST: u32 = 128;
 
 /// The width and the value of a number, or None where the text is none or passes a limit.
 pub fn number(text: &[u8]) -> Option<(Option<u8>, u128)>
-    ensures { MatchOption result (IsNoNumber text.now) (λ found. IsNumber found.0 found.1 text.now) }
+    ensures { IsNumberRead text.now result }
 {
     match width_end(text) {
         Some(place) => {
@@ -31,7 +32,7 @@ fn width_end(text: &[u8]) -> Option<usize>
 
 /// The width that stands before a `w`, decimal digits for 1 to 128, or None where something else stands there.
 fn width_of(digits: &[u8]) -> Option<u8>
-    ensures { MatchOption result ((width : ℕ) → IsWidth width digits.now → ⊥) (λ width. IsWidth width digits.now) }
+    ensures { IsFound (λ width. IsWidth width digits.now) result }
 {
     let mut width: u32 = 0;
     for byte in digits {
@@ -46,7 +47,7 @@ fn width_of(digits: &[u8]) -> Option<u8>
 
 /// The value of a number without its width, or None where the text is none or the value passes the limit.
 fn natural(text: &[u8]) -> Option<u128>
-    ensures { MatchOption result ((value : ℕ) → IsNatural value text.now → ⊥) (λ value. IsNatural value text.now) }
+    ensures { IsFound (λ value. IsNatural value text.now) result }
 {
     if text.len() >= 2 && text[0] == b'0' {
         if let Some(base) = base_of(text[1]) {
@@ -73,7 +74,7 @@ fn base_of(letter: u8) -> Option<u32>
 fn value_in(base: u32, digits: &[u8]) -> Option<u128>
     requires low { 2 ≤ base }
     requires high { base ≤ 16 }
-    ensures { MatchOption result ((value : ℕ) → value < 2 ^ 128 → IsInBase base value digits.now → ⊥) (λ value. IsInBase base value digits.now) }
+    ensures { IsSmallInBase base digits.now result }
 {
     if digits.is_empty() || digits[0] == b'_' {
         return None;
@@ -93,7 +94,7 @@ fn with_digit(base: u32, value: u128, byte: u8) -> Option<u128>
     requires high { base ≤ 16 }
     ensures digit { IfSome result (λ more. digit_value byte < base) }
     ensures value { IfSome result (λ more. more ≡ value * base + digit_value byte) }
-    ensures none { IfNone result (digit_value byte < base → 2 ^ 128 ≤ value * base + digit_value byte) }
+    ensures none { IfNone result (digit_value byte < base → IsTooGreat (value * base + digit_value byte)) }
 {
     let digit = digit_of(base, byte)?;
     let shifted = value.checked_mul(u128::from(base))?;

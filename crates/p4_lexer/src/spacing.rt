@@ -1,4 +1,5 @@
 ghost use Rattle.std.specs.Prelude.{◌≡◌, ◌≢◌, ℕ, ◌+◌, ◌^◌, ◌<◌, ◌≤◌, ◌↔◌, length, slice_index, IsTrue, IfSome, IfNone, MatchOption};
+ghost use Rattle.p4_lexer.specs.Finding.{AllBetween};
 ghost use Rattle.p4_lexer.specs.Gaps.{is_space, IsClose, IsBlockComment, IsSpacing};
 ghost use Rattle.p4_lexer.specs.BadPlaces.{HasNoSpacing, IsOpening};
 
@@ -58,7 +59,7 @@ fn block_end(text: &[u8], from: usize) -> Option<usize>
     ensures within { IfSome result (λ end. end ≤ length text.now) }
     ensures before { IfSome result (λ end. (k : ℕ) → from ≤ k → k + 2 < end → IsClose text.now k → ⊥) }
     ensures found { IfSome result (λ end. (k : ℕ) → k + 2 ≡ end → IsClose text.now k) }
-    ensures none { IfNone result ((k : ℕ) → from ≤ k → k < length text.now → IsClose text.now k → ⊥) }
+    ensures none { IfNone result (AllBetween from (length text.now) (λ k. IsClose text.now k → ⊥)) }
 {
     for i in from..text.len() {
         if is_close(text, i) {

@@ -262,29 +262,3 @@ pub const OPERATORS: [Case; 19] = [
         code: 18,
     },
 ];
-
-#[cfg(test)]
-mod tests {
-    use super::*;
-    use case_table::distinct;
-
-    #[test]
-    fn no_word_and_no_code_stands_twice(rt: HostRuntime) {
-        assert!(rt; distinct(&RESERVED));
-        assert!(rt; distinct(&SIGNS));
-        assert!(rt; distinct(&OPERATORS));
-    }
-
-    #[test]
-    fn a_code_is_the_place_in_the_table(rt: HostRuntime) {
-        for (place, row) in RESERVED.iter().enumerate() {
-            assert_eq!(rt; usize::from(row.code), place);
-        }
-        for (place, row) in SIGNS.iter().enumerate() {
-            assert_eq!(rt; usize::from(row.code), place);
-        }
-        for (place, row) in OPERATORS.iter().enumerate() {
-            assert_eq!(rt; usize::from(row.code), place);
-        }
-    }
-}

@@ -3,6 +3,7 @@ ghost use Rattle.std.specs.Char.{is_ascii_digit};
 ghost use Rattle.std.specs.List.{AllPass};
 ghost use Rattle.case_table.specs.Rows.{IsWordAt};
 ghost use Rattle.p4_lexer.specs.BadPlaces.{HasNoToken};
+ghost use Rattle.p4_lexer.specs.Finding.{IsFound, IsPieceRead, IsSignRead, AllBetween};
 ghost use Rattle.p4_lexer.specs.Numbers.{IsNoNumber};
 ghost use Rattle.p4_lexer.specs.Pieces.{is_word_byte, is_blank, reserved_words, signs, IsFile, IsPiece};
 ghost use Rattle.p4_lexer.specs.Tokens.{IsTokenAt, IsLongestSign};
@@ -47,7 +48,7 @@ fn word_at(text: &[u8], at: usize) -> Option<Token>
 fn word_kind(word: &[u8]) -> Option<Kind>
     requires some { 0 < length word.now }
     requires bytes { AllPass is_word_byte word.now }
-    ensures { MatchOption result ((is_ascii_digit (slice_index word.now 0) ≡ true) × IsNoNumber word.now) (λ kind. IsPiece kind word.now) }
+    ensures { IsPieceRead word.now result }
 {
     if word[0].is_ascii_digit() {
         let (width, value) = number(word)?;
@@ -62,7 +63,7 @@ fn word_kind(word: &[u8]) -> Option<Kind>
 
 /// The code of a reserved word, or None where the word is none.
 fn reserved_code(word: &[u8]) -> Option<u16>
-    ensures { MatchOption result ((code : ℕ) → IsWordAt reserved_words code word.now → ⊥) (λ code. IsWordAt reserved_words code word.now) }
+    ensures { IsFound (λ code. IsWordAt reserved_words code word.now) result }
 {
     find(&RESERVED, word)
 }
@@ -70,7 +71,7 @@ fn reserved_code(word: &[u8]) -> Option<u16>
 /// The code and the length of the longest sign at `at`, or None where no sign stands there.
 fn longest_sign(text: &[u8], at: usize) -> Option<(u16, usize)>
     requires { at < length text.now }
-    ensures { MatchOption result ((code end : ℕ) → at < end → end ≤ length text.now → IsWordAt signs code (slice_range text.now at end) → ⊥) (λ found. IsLongestSign text.now at found.0 found.1) }
+    ensures { IsSignRead text.now at result }
 {
     munch(&SIGNS, text, at)
 }
@@ -124,7 +125,7 @@ fn is_include(text: &[u8]) -> bool
 /// The number of the file whose name in angle brackets a text begins with, or None where it begins with no such name.
 fn file_code(text: &[u8]) -> Option<u8>
     ensures within { IfSome result (λ code. 9 ≤ length text.now) }
-    ensures file { MatchOption result ((code : ℕ) → IsFile code (take 9 text.now) → ⊥) (λ code. IsFile code (take 9 text.now)) }
+    ensures file { IsFound (λ code. IsFile code (take 9 text.now)) result }
 {
     if text.starts_with(b"<core.p4>") {
         Some(0)
@@ -140,7 +141,7 @@ fn word_end(text: &[u8], from: usize) -> usize
     requires { from ≤ length text.now }
     ensures after { from ≤ result }
     ensures within { result ≤ length text.now }
-    ensures before { (k : ℕ) → from ≤ k → k < result → is_word_byte (slice_index text.now k) ≡ true }
+    ensures before { AllBetween from result (λ k. is_word_byte (slice_index text.now k) ≡ true) }
     ensures stop { result < length text.now → is_word_byte (slice_index text.now result) ≡ false }
 {
     for i in from..text.len() {
@@ -156,7 +157,7 @@ fn blanks_end(text: &[u8], from: usize) -> usize
     requires { from ≤ length text.now }
     ensures after { from ≤ result }
     ensures within { result ≤ length text.now }
-    ensures before { (k : ℕ) → from ≤ k → k < result → is_blank (slice_index text.now k) ≡ true }
+    ensures before { AllBetween from result (λ k. is_blank (slice_index text.now k) ≡ true) }
     ensures stop { result < length text.now → is_blank (slice_index text.now result) ≡ false }
 {
     for i in from..text.len() {

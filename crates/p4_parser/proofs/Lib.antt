@@ -14,3 +14,4 @@ pub mod StateSpelling
 pub mod ActionSpelling
 pub mod ControlSpelling
 pub mod BegunLaws
+pub mod FewDeclarations

@@ -1,16 +1,19 @@
 -- Where a reader of a part of a program refuses as too deep.
-use Rattle.std.proofs.Common.{◌≡◌, ℕ, ◌+◌, ◌≤◌, List, ◌++◌, ap, arith, refl, subst, sym, ◌∙◌, append_assoc, inl, inr}
+use Rattle.p4_parser.specs.Reading.{AppliesPassed}
+use Rattle.p4_statements.proofs.FewReading.{passes_opens}
+use Rattle.spelling.proofs.ByParts.{PassesIn}
+use Rattle.std.proofs.Common.{◌≡◌, ℕ, ◌+◌, ◌≤◌, List, ◌++◌, ap, arith, refl, subst, sym, ◌∙◌, append_assoc, inl, inr, codes}
 use Rattle.spelling.specs.Words.{Word}
 use Rattle.spelling.specs.Grammar.{Grammar, Named, Reserved}
 use Rattle.spelling.specs.Reading.{Takes, MayTake}
 use Rattle.spelling.specs.Bounds.{Opens, OpensNext, Stops}
 use Rattle.spelling.proofs.Balance.{stays_both, stays_named, stays_reserved}
-use Rattle.spelling.proofs.Bounds.{even, opens_both, stop_as}
+use Rattle.spelling.proofs.Bounds.{even, opens_both, stop_as, one_open}
 use Rattle.spelling.proofs.Taking.{may, takes_both}
 use Rattle.p4_expr.specs.Passing.{BoundPassed}
 use Rattle.p4_expr.proofs.Bound.{bound_as, bound_past}
 use Rattle.p4_statements.specs.Begun.{StmtsBegun}
-use Rattle.p4_parser.specs.Reaching.{Reaches}
+use Rattle.p4_parser.specs.Reaching.{Reaches, ProgramPassed}
 
 -- the reserved word and the name with which a part of a program begins
 pub headed : (text name : List ℕ) {a b c : List Word} → Takes (Reserved text) a b → Takes (Named name) b c → MayTake (Opens 0) a c
@@ -42,3 +45,20 @@ reaches_stop s = inl (stop_as (λ ws h. Reaches.brackets h) s)
 pub passed_front : {Begun : Grammar} {enclosed : ℕ} {a c : List Word} → BoundPassed Begun enclosed a c → (front : List Word) × (a ≡ front ++ c)
 passed_front (inl s) = (s.front, s.joined)
 passed_front {c = c} (inr p) = (p.front ++ p.passed.front, p.joined ∙ ap (λ ws. p.front ++ ws) p.passed.joined ∙ sym (append_assoc p.front p.passed.front c))
+
+-- how the bounds are passed in the brackets of a control and of what it applies
+pub passes_contents : (depth : ℕ) → PassesIn (codes "{") depth (ProgramPassed depth) AppliesPassed
+passes_contents depth =
+    let here = passes_opens (codes "{") depth 1 2 refl (omega arith) in
+    record {
+      stops = λ a next e. reaches_all (omega arith) (here.stops a next e);
+      grows = λ inner a b c e m p. reaches_past depth 1 inner 1 2 (omega (arith, e)) (omega arith) (one_open (codes "{") refl m) p;
+    }
+
+pub passes_apply : (depth : ℕ) → PassesIn (codes "{") depth (AppliesPassed depth) (λ inner b c. BoundPassed (StmtsBegun c inner) 0 b c)
+passes_apply depth =
+    let here = passes_opens (codes "{") depth 0 1 refl (omega arith) in
+    record {
+      stops = λ a next e. reaches_all (omega arith) (here.stops a next e);
+      grows = λ inner a b c e m p. reaches_within depth 1 inner 1 (omega (arith, e)) (omega arith) (one_open (codes "{") refl m) p;
+    }

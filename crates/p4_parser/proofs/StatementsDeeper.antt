@@ -1,4 +1,5 @@
 -- A statement that is spelled within a depth is spelled within each greater one.
+use Rattle.spelling.proofs.Limits.{inside}
 use Rattle.std.proofs.Common.{ℕ, zero, suc, ◌≤◌, Bool, List, Option, None, Some, codes, arith}
 use Rattle.elastic_ast.specs.Tree.{Name, PlainExpr, PlainStmt, PlainStmts}
 use Rattle.spelling.specs.Words.{Word}

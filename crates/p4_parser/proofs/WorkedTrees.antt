@@ -1,6 +1,6 @@
 -- How the worked declarations are spelled.
 use Rattle.std.proofs.Common.{[], ◌∷◌, true, false, None, Some, codes, refl, inl, inr, lit<}
-use Rattle.elastic_ast.specs.Operators.{Or, And, Equal, Differ, Less, AtMost, Greater, AtLeast, BitOr, BitXor, BitAnd, ShiftDown, Join, Negate}
+use Rattle.elastic_ast.specs.OperatorSorts.{Or, And, Equal, Differ, Less, AtMost, Greater, AtLeast, BitOr, BitXor, BitAnd, ShiftDown, Join, Negate}
 use Rattle.elastic_ast.specs.declared.statements.Lval.TheVariants as lval
 use Rattle.elastic_ast.specs.Tree.{PlainExpr, PlainKeyset}
 use Rattle.p4_expr.specs.Expressions.{SpellsLevel, SpellsPrefixed, SpellsPrimary}

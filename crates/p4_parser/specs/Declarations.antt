@@ -1,33 +1,49 @@
 -- Which words spell a parser, a control, each other declaration and a whole program, in the manner of the grammar of the
 -- P4-16 language specification 1.2.3; actions with an index and the fixed parameters are this project's own.
-use Rattle.std.specs.Prelude.{◌≡◌, ℕ, Option, None, Some, codes}
+use Rattle.std.specs.Prelude.{◌≡◌, ℕ, List, Option, None, Some, codes}
 use Rattle.elastic_ast.specs.declared.declarations.Param.{Param}
-use Rattle.elastic_ast.specs.Tree.{Name, PlainKeyset, PlainLocal, PlainNext, PlainState, PlainDecl, PlainProgram}
-use Rattle.spelling.specs.Grammar.{Grammar, Empty, ◌⨟◌, Either, Where, Each, Commas, Sign, Reserved, Named, Bracketed}
-use Rattle.p4_expr.specs.Parts.{SpellsBits, SpellsHeader}
+use Rattle.elastic_ast.specs.Tree.{Name, PlainAction, PlainKeyset, PlainLocal, PlainNext, PlainState, PlainStmts, PlainDecl, PlainProgram}
+use Rattle.spelling.specs.Grammar.{Grammar, Empty, ◌⨟◌, Either, Where, Each, Commas, Sign, Reserved, Named}
+use Rattle.p4_expr.specs.Parts.{SpellsBits}
 use Rattle.p4_expr.specs.Expressions.{SpellsExpr}
-use Rattle.p4_declarations.specs.Flat.{SpellsFlat}
+use Rattle.spelling.specs.Readers.{InCurly, InRound, InSquare}
+use Rattle.p4_declarations.specs.Flat.{SpellsFlat, SpellsOfPacket}
 use Rattle.p4_tables.specs.Tables.{SpellsSet, SpellsTable}
 use Rattle.p4_statements.specs.Statements.{SpellsPlains, SpellsStmts}
+
+-- 'int' N
+abbrev pub SpellsIndexName : Name → Grammar
+SpellsIndexName name = Reserved (codes "int") ⨟ Named name
 
 -- ['[' 'int' N ']']
 abbrev pub SpellsActionIndex : ℕ → Option Name → Grammar
 SpellsActionIndex depth None = Empty
-SpellsActionIndex depth (Some index) = Bracketed (codes "[") (codes "]") depth (λ _. Reserved (codes "int") ⨟ Named index)
+SpellsActionIndex depth (Some index) = InSquare (λ _. SpellsIndexName) depth index
 
 -- bits N
 abbrev pub SpellsParam : Param → Grammar
 SpellsParam param = SpellsBits param.width ⨟ Named param.name
 
--- local := 'action' N ['[' 'int' N ']'] '(' (bits N),* ')' '{' plain* '}'
---   | 'table' N '{' prop* '}'
+-- (bits N),*
+abbrev pub SpellsParamList : List Param → Grammar
+SpellsParamList params = Commas SpellsParam params
+
+-- '(' (bits N),* ')'
+abbrev pub SpellsParams : ℕ → List Param → Grammar
+SpellsParams depth params = InRound (λ _. SpellsParamList) depth params
+
+-- 'action' N ['[' 'int' N ']'] '(' (bits N),* ')' '{' plain* '}'
+abbrev pub SpellsAction : ℕ → PlainAction → Grammar
+SpellsAction depth action = Reserved (codes "action") ⨟ Named action.name ⨟ SpellsActionIndex depth action.index ⨟ SpellsParams depth action.params ⨟ InCurly SpellsPlains depth action.body
+
+-- local := action | 'table' N '{' prop* '}'
 abbrev pub SpellsLocal : ℕ → PlainLocal → Grammar
-SpellsLocal depth (PlainLocal.OfAction action) = Reserved (codes "action") ⨟ Named action.name ⨟ SpellsActionIndex depth action.index ⨟ Bracketed (codes "(") (codes ")") depth (λ _. Commas SpellsParam action.params) ⨟ Bracketed (codes "{") (codes "}") depth (λ inner. SpellsPlains inner action.body)
+SpellsLocal depth (PlainLocal.OfAction action) = SpellsAction depth action
 SpellsLocal depth (PlainLocal.OfTable table) = SpellsTable depth table
 
 -- 'pkt' '.' 'extract' '(' 'hdr' '.' N ')' ';'
 abbrev pub SpellsExtract : ℕ → Name → Grammar
-SpellsExtract depth header = Named (codes "pkt") ⨟ Sign (codes ".") ⨟ Named (codes "extract") ⨟ Bracketed (codes "(") (codes ")") depth (λ _. SpellsHeader header) ⨟ Sign (codes ";")
+SpellsExtract = SpellsOfPacket (codes "extract")
 
 -- set | 'default', which is the set of anything too
 abbrev pub SpellsCaseSet : PlainKeyset → Grammar
@@ -37,15 +53,31 @@ SpellsCaseSet set = Either (SpellsSet set) (Where (set ≡ PlainKeyset.Any) (Res
 abbrev pub SpellsCase : PlainKeyset × Name → Grammar
 SpellsCase chosen = SpellsCaseSet chosen.0 ⨟ Sign (codes ":") ⨟ Named chosen.1 ⨟ Sign (codes ";")
 
+abbrev pub SpellsCases : List (PlainKeyset × Name) → Grammar
+SpellsCases cases = Each SpellsCase cases
+
+abbrev pub CasesIn : ℕ → List (PlainKeyset × Name) → Grammar
+CasesIn depth cases = SpellsCases cases
+
+abbrev pub SpellsExtracts : ℕ → List Name → Grammar
+SpellsExtracts depth headers = Each (SpellsExtract depth) headers
+
 -- next := N ';'
 --   | 'select' '(' expr ')' '{' ((set | 'default') ':' N ';')* '}'
 abbrev pub SpellsNext : ℕ → PlainNext → Grammar
 SpellsNext depth (PlainNext.To state) = Named state ⨟ Sign (codes ";")
-SpellsNext depth (PlainNext.Select of cases) = Reserved (codes "select") ⨟ Bracketed (codes "(") (codes ")") depth (λ inner. SpellsExpr inner of) ⨟ Bracketed (codes "{") (codes "}") depth (λ _. Each SpellsCase cases)
+SpellsNext depth (PlainNext.Select of cases) = Reserved (codes "select") ⨟ InRound SpellsExpr depth of ⨟ InCurly CasesIn depth cases
+
+-- ('pkt' '.' 'extract' '(' 'hdr' '.' N ')' ';')* 'transition' next
+abbrev pub SpellsStateBody : ℕ → List Name × PlainNext → Grammar
+SpellsStateBody depth body = SpellsExtracts depth body.0 ⨟ Reserved (codes "transition") ⨟ SpellsNext depth body.1
 
 -- state := 'state' N '{' ('pkt' '.' 'extract' '(' 'hdr' '.' N ')' ';')* 'transition' next '}'
 abbrev pub SpellsState : ℕ → PlainState → Grammar
-SpellsState depth state = Reserved (codes "state") ⨟ Named state.name ⨟ Bracketed (codes "{") (codes "}") depth (λ inner. Each (SpellsExtract inner) state.extracts ⨟ Reserved (codes "transition") ⨟ SpellsNext inner state.next)
+SpellsState depth state = Reserved (codes "state") ⨟ Named state.name ⨟ InCurly SpellsStateBody depth (state.extracts, state.next)
+
+abbrev pub SpellsStates : ℕ → List PlainState → Grammar
+SpellsStates depth states = Each (SpellsState depth) states
 
 -- 'inout' 'meta_t' 'meta' ',' 'inout' 'std_t' 'std'
 abbrev pub SpellsLastParameters : Grammar
@@ -59,12 +91,30 @@ SpellsParserParameters = Named (codes "packet_in") ⨟ Named (codes "pkt") ⨟ S
 abbrev pub SpellsControlParameters : Grammar
 SpellsControlParameters = Reserved (codes "inout") ⨟ Named (codes "headers_t") ⨟ Named (codes "hdr") ⨟ Sign (codes ",") ⨟ SpellsLastParameters
 
+-- 'apply' '{' stmt* '}'
+abbrev pub SpellsApplyBlock : ℕ → PlainStmts → Grammar
+SpellsApplyBlock depth body = Named (codes "apply") ⨟ InCurly SpellsStmts depth body
+
+abbrev pub SpellsLocals : ℕ → List PlainLocal → Grammar
+SpellsLocals depth locals = Each (SpellsLocal depth) locals
+
+-- local* 'apply' '{' stmt* '}'
+abbrev pub SpellsContents : ℕ → List PlainLocal × PlainStmts → Grammar
+SpellsContents depth contents = SpellsLocals depth contents.0 ⨟ SpellsApplyBlock depth contents.1
+
+-- the parameters of a parser and of a control, between brackets
+abbrev pub InParser : ℕ → Unit {0} → Grammar
+InParser depth none = SpellsParserParameters
+
+abbrev pub InControl : ℕ → Unit {0} → Grammar
+InControl depth none = SpellsControlParameters
+
 -- A declaration; one that is flat, or
 --   'parser' N '(' parameters ')' '{' state* '}'
 --   | 'control' N '(' parameters ')' '{' local* 'apply' '{' stmt* '}' '}'
 abbrev pub SpellsDeclaration : ℕ → PlainDecl → Grammar
-SpellsDeclaration depth (PlainDecl.Parser name states) = Reserved (codes "parser") ⨟ Named name ⨟ Bracketed (codes "(") (codes ")") depth (λ _. SpellsParserParameters) ⨟ Bracketed (codes "{") (codes "}") depth (λ inner. Each (SpellsState inner) states)
-SpellsDeclaration depth (PlainDecl.Control name locals body) = Reserved (codes "control") ⨟ Named name ⨟ Bracketed (codes "(") (codes ")") depth (λ _. SpellsControlParameters) ⨟ Bracketed (codes "{") (codes "}") depth (λ inner. Each (SpellsLocal inner) locals ⨟ Named (codes "apply") ⨟ Bracketed (codes "{") (codes "}") inner (λ innermost. SpellsStmts innermost body))
+SpellsDeclaration depth (PlainDecl.Parser name states) = Reserved (codes "parser") ⨟ Named name ⨟ InRound InParser depth tt ⨟ InCurly SpellsStates depth states
+SpellsDeclaration depth (PlainDecl.Control name locals body) = Reserved (codes "control") ⨟ Named name ⨟ InRound InControl depth tt ⨟ InCurly SpellsContents depth (locals, body)
 SpellsDeclaration depth decl = SpellsFlat depth decl
 
 -- program := decl*

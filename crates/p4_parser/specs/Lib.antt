@@ -4,4 +4,7 @@ pub mod ProgramOf
 pub mod Examples
 pub mod WorkedTexts
 pub mod Reading
+pub mod Parsing
+pub mod Laws
+pub mod ExampleLaws
 pub mod Reaching

@@ -1,32 +1,24 @@
 //! Actions.
 
-ghost use Rattle.std.specs.Prelude.{ℕ, ◌≤◌, List, Option, codes, IfOk, IfErr};
 ghost use Rattle.elastic_ast.specs.Seen.{seen_action, seen_stmts};
-ghost use Rattle.elastic_ast.specs.Tree.{PlainAction, PlainLocal, PlainStmts};
-ghost use Rattle.elastic_ast.specs.declared.declarations.Param.{Param};
-ghost use Rattle.spelling.specs.Words.{Word};
-ghost use Rattle.spelling.specs.Grammar.{Begins, Bracketed, Commas, IsSign, Separated, Sign};
-ghost use Rattle.spelling.specs.Reading.{ahead, Takes, MayTake, IsAnswer, IsReading};
-ghost use Rattle.p4_statements.specs.Statements.{SpellsPlains};
+ghost use Rattle.spelling.specs.Readers.{itself, Reads, ReadsUpTo, ReadsWithin};
 ghost use Rattle.p4_statements.specs.Reading.{HaveFew};
-ghost use Rattle.p4_parser.specs.Declarations.{SpellsActionIndex, SpellsLocal, SpellsParam};
-ghost use Rattle.spelling.specs.Bounds.{IfTooDeep, IsNeverDeep, Opens, OpensNext, Stops};
-ghost use Rattle.p4_expr.specs.Passing.{BoundPassed};
+ghost use Rattle.p4_statements.specs.Statements.{SpellsPlains};
+ghost use Rattle.p4_tables.specs.Reading.{EndsRound, ReadsWordsUpTo};
+ghost use Rattle.p4_parser.specs.Declarations.{SpellsAction, SpellsActionIndex, SpellsIndexName, SpellsParam, SpellsParamList, SpellsParams};
+ghost use Rattle.p4_parser.specs.Reading.{ActionHasFew, OpensNextRound, ReadsBlock, ReadsPart};
 
 use elastic_ast::{Action, Param, Stmt};
 use elx_bits::{Items, Name};
 use p4_expr::bits;
 use p4_statements::plain_statements;
-use spelling::{Reader, SyntaxError, keep};
+use spelling::{Reader, SyntaxError, in_brackets, separated};
 use std::alloc::Global;
 
 /// Reads `action NAME(PARAMETERS) { STATEMENTS }` or `action NAME[int INDEX](PARAMETERS) { STATEMENTS }`. `depth` is how many
 /// brackets may be open from here on.
 pub fn action(alloc: Global, reader: &mut Reader<'_>, depth: u32) -> Result<Action, SyntaxError>
-    ensures taken { IfOk result (λ action. Takes (SpellsLocal depth (PlainLocal.OfAction (seen_action action))) (ahead reader.old) (ahead reader.new)) }
-    ensures few { IfOk result (λ action. HaveFew (seen_action action).body) }
-    ensures only { (more : ℕ) (action : PlainAction) (rest : List Word) → MayTake (SpellsLocal more (PlainLocal.OfAction action)) (ahead reader.old) rest → IsReading ((more ≤ depth) × HaveFew action.body) seen_action action rest (ahead reader.new) result }
-    ensures deep { IfErr result (IfTooDeep (BoundPassed (Opens depth) 1 (ahead reader.old) (ahead reader.new))) }
+    ensures { ReadsPart SpellsAction seen_action ActionHasFew 1 depth reader.old reader.new result }
 {
     reader.reserved(b"action")?;
     let name = reader.name(alloc)?;
@@ -47,56 +39,56 @@ fn action_index(
     reader: &mut Reader<'_>,
     depth: u32,
 ) -> Result<Option<Name>, SyntaxError>
-    ensures taken { IfOk result (λ index. MayTake (SpellsActionIndex depth index) (ahead reader.old) (ahead reader.new)) }
-    ensures only { (more : ℕ) (index : Option (List ℕ)) (rest : List Word) → MayTake (SpellsActionIndex more index) (ahead reader.old) rest → Begins (IsSign (codes "(")) rest → IsReading (more ≤ depth) (λ read. read) index rest (ahead reader.new) result }
-    ensures deep { IfErr result (IfTooDeep (Stops (Opens depth) OpensNext (ahead reader.old) (ahead reader.new))) }
+    ensures { ReadsUpTo OpensNextRound SpellsActionIndex itself depth reader.old reader.new result }
 {
     if !reader.is_at_sign(b"[") {
         return Ok(None);
     }
-    let _inner = reader.open(b"[", depth)?;
+    let name = in_brackets(
+        reader,
+        b"[",
+        b"]",
+        depth,
+        |reader, _| index_name(alloc, reader),
+    )?;
+    Ok(Some(name))
+}
+
+/// `int INDEX`
+fn index_name(alloc: Global, reader: &mut Reader<'_>) -> Result<Name, SyntaxError>
+    ensures { Reads SpellsIndexName itself reader.old reader.new result }
+{
     reader.reserved(b"int")?;
     let name = reader.name(alloc)?;
-    reader.sign(b"]")?;
-    Ok(Some(name))
+    Ok(name)
 }
 
 /// Parameters between brackets, with a comma between each two.
 fn params(alloc: Global, reader: &mut Reader<'_>, depth: u32) -> Result<Items<Param>, SyntaxError>
-    ensures taken { IfOk result (λ params. Takes (Bracketed (codes "(") (codes ")") depth (λ _. Commas SpellsParam params)) (ahead reader.old) (ahead reader.new)) }
-    ensures only { (more : ℕ) (params : List Param) (rest : List Word) → MayTake (Bracketed (codes "(") (codes ")") more (λ _. Commas SpellsParam params)) (ahead reader.old) rest → IsReading (more ≤ depth) (λ read. read) params rest (ahead reader.new) result }
-    ensures deep { IfErr result (IfTooDeep (Stops (Opens depth) OpensNext (ahead reader.old) (ahead reader.new))) }
+    ensures { ReadsWithin SpellsParams itself depth reader.old reader.new result }
 {
-    let _inner = reader.open(b"(", depth)?;
-    if reader.eat_sign(b")") {
-        return Ok(Items::new(alloc));
-    }
-    let params = some_params(alloc, reader)?;
-    reader.sign(b")")?;
-    Ok(params)
+    in_brackets(
+        reader,
+        b"(",
+        b")",
+        depth,
+        |reader, _| param_list(alloc, reader),
+    )
 }
 
-/// At least one parameter, with a comma between each two.
-fn some_params(alloc: Global, reader: &mut Reader<'_>) -> Result<Items<Param>, SyntaxError>
-    ensures taken { IfOk result (λ params. Takes (Separated (Sign (codes ",")) SpellsParam params) (ahead reader.old) (ahead reader.new)) }
-    ensures only { (params : List Param) (rest : List Word) → MayTake (Separated (Sign (codes ",")) SpellsParam params) (ahead reader.old) rest → Begins (IsSign (codes ")")) rest → IsAnswer (λ read. read) params rest (ahead reader.new) result }
-    ensures shallow { IfErr result IsNeverDeep }
+/// Parameters with a comma between each two, perhaps none, up to the closing bracket.
+fn param_list(alloc: Global, reader: &mut Reader<'_>) -> Result<Items<Param>, SyntaxError>
+    ensures { ReadsWordsUpTo EndsRound SpellsParamList itself reader.old reader.new result }
 {
-    let mut params = Items::new(alloc);
-    let first = param(alloc, reader)?;
-    keep(&mut params, first)?;
-    'params: while reader.eat_sign(b",") {
-        let next = param(alloc, reader)?;
-        keep(&mut params, next)?;
+    if reader.is_at_sign(b")") {
+        return Ok(Items::new(alloc));
     }
-    Ok(params)
+    separated(alloc, reader, b",", |reader| param(alloc, reader))
 }
 
 /// `bit<WIDTH> NAME`
 fn param(alloc: Global, reader: &mut Reader<'_>) -> Result<Param, SyntaxError>
-    ensures taken { IfOk result (λ param. Takes (SpellsParam param) (ahead reader.old) (ahead reader.new)) }
-    ensures only { (param : Param) (rest : List Word) → MayTake (SpellsParam param) (ahead reader.old) rest → IsAnswer (λ read. read) param rest (ahead reader.new) result }
-    ensures shallow { IfErr result IsNeverDeep }
+    ensures { Reads SpellsParam itself reader.old reader.new result }
 {
     let width = bits(reader)?;
     let name = reader.name(alloc)?;
@@ -105,13 +97,13 @@ fn param(alloc: Global, reader: &mut Reader<'_>) -> Result<Param, SyntaxError>
 
 /// `{ STATEMENTS }`
 fn body(alloc: Global, reader: &mut Reader<'_>, depth: u32) -> Result<Items<Stmt>, SyntaxError>
-    ensures taken { IfOk result (λ stmts. Takes (Bracketed (codes "{") (codes "}") depth (λ inner. SpellsPlains inner (seen_stmts stmts))) (ahead reader.old) (ahead reader.new)) }
-    ensures few { IfOk result (λ stmts. HaveFew (seen_stmts stmts)) }
-    ensures only { (more : ℕ) (stmts : PlainStmts) (rest : List Word) → MayTake (Bracketed (codes "{") (codes "}") more (λ inner. SpellsPlains inner stmts)) (ahead reader.old) rest → IsReading ((more ≤ depth) × HaveFew stmts) seen_stmts stmts rest (ahead reader.new) result }
-    ensures deep { IfErr result (IfTooDeep (BoundPassed (Opens depth) 1 (ahead reader.old) (ahead reader.new))) }
+    ensures { ReadsBlock SpellsPlains seen_stmts HaveFew 1 depth reader.old reader.new result }
 {
-    let inner = reader.open(b"{", depth)?;
-    let stmts = plain_statements(alloc, reader, inner)?;
-    reader.sign(b"}")?;
-    Ok(stmts)
+    in_brackets(
+        reader,
+        b"{",
+        b"}",
+        depth,
+        |reader, inner| plain_statements(alloc, reader, inner),
+    )
 }

@@ -1,29 +1,28 @@
 //! Examples of what the grammar of whole programs spells and of what it doesn't, each the contract of an empty function.
 
-ghost use Rattle.std.specs.Prelude.{◌≡◌, ℕ, ◌≤◌, Bool, true, List, [], ◌∷◌, Some, None, codes};
-ghost use Rattle.elastic_ast.specs.declared.statements.Amount.TheVariants as Amount;
-ghost use Rattle.elastic_ast.specs.Tree.{PlainExpr, PlainStmt, PlainStmts, PlainTable, PlainDecl, PlainProgram};
-ghost use Rattle.spelling.specs.Words.{Word};
+ghost use Rattle.std.specs.Prelude.{◌≡◌, ℕ};
+ghost use Rattle.elastic_ast.specs.Tree.{PlainTable, PlainProgram};
 ghost use Rattle.spelling.specs.Brackets.{most_open};
 ghost use Rattle.p4_tables.specs.Tables.{SpellsTable};
-ghost use Rattle.p4_statements.specs.Statements.{SpellsStmt, SpellsStmts};
+ghost use Rattle.p4_statements.specs.Statements.{SpellsStmts};
 ghost use Rattle.p4_parser.specs.Declarations.{SpellsProgram};
+ghost use Rattle.p4_parser.specs.ExampleLaws.{InnerElse, StageInBranch, TouchingClosings, NoIfAtNone, NoIfElseAtNone, ConditionsNeedDepth, BracketsNeedDepth};
 ghost use Rattle.p4_parser.specs.WorkedTexts.{worked_declarations, worked_declarations_tree, worked_parser, worked_parser_tree, worked_control, worked_control_tree, worked_end, worked_end_tree};
-ghost use Rattle.p4_parser.specs.Examples.{inner_else, branch_of_a_stage, touching_closings, wider_number, too_wide, two_empty_keys, only, bare_call, conditions, bracketed_conditions, bare_conditions};
+ghost use Rattle.p4_parser.specs.Examples.{wider_number, too_wide, two_empty_keys, only, conditions, bracketed_conditions, bare_conditions};
 
 /// An `else` behind two `if` belongs to the inner one. Each branch is one statement without brackets, and counts as one.
 pub fn else_goes_to_the_inner_if()
-    ensures { SpellsStmt 3 true (PlainStmt.If (PlainExpr.Named (codes "a")) (only (PlainStmt.IfElse (PlainExpr.Named (codes "b")) (only (bare_call (codes "x"))) (only (bare_call (codes "y")))))) inner_else }
+    ensures { InnerElse }
 {}
 
 /// A block of a stage is one statement of a branch, and the branch counts as one more bracket.
 pub fn block_of_a_stage_is_one_statement()
-    ensures { SpellsStmt 3 true (PlainStmt.If (PlainExpr.Named (codes "a")) (only (PlainStmt.Block (Some 0) (only (bare_call (codes "x")))))) branch_of_a_stage }
+    ensures { StageInBranch }
 {}
 
 /// Two signs `>` that touch may close two types.
 pub fn touching_signs_close_two_types()
-    ensures { SpellsProgram 1 (PlainDecl.Register (codes "r") 32 (Amount.Num 4) None ∷ []) touching_closings }
+    ensures { TouchingClosings }
 {}
 
 /// A constant whose number has another width than the constant is no program.
@@ -43,8 +42,8 @@ pub fn no_table_has_two_empty_keys()
 
 /// Where no bracket may be open, no condition is spelled.
 pub fn no_condition_without_depth()
-    ensures alone { (open_end : Bool) (condition : PlainExpr) (then_stmts : PlainStmts) (ws : List Word) → SpellsStmt 0 open_end (PlainStmt.If condition then_stmts) ws → ⊥ }
-    ensures with_else { (open_end : Bool) (condition : PlainExpr) (then_stmts else_stmts : PlainStmts) (ws : List Word) → SpellsStmt 0 open_end (PlainStmt.IfElse condition then_stmts else_stmts) ws → ⊥ }
+    ensures alone { NoIfAtNone }
+    ensures with_else { NoIfElseAtNone }
 {}
 
 /// So many conditions, each within the one before, are spelled at a depth of their number, with brackets around each branch or
@@ -52,8 +51,8 @@ pub fn no_condition_without_depth()
 pub fn conditions_need_a_depth_of_their_number()
     ensures bracketed { (n : ℕ) → SpellsStmts n (only (conditions n)) (bracketed_conditions n) }
     ensures bare { (n : ℕ) → SpellsStmts n (only (conditions n)) (bare_conditions n) }
-    ensures tree { (n depth : ℕ) (ws : List Word) → SpellsStmts depth (only (conditions n)) ws → n ≤ depth }
-    ensures words { (n depth : ℕ) (stmts : PlainStmts) → SpellsStmts depth stmts (bracketed_conditions n) → n ≤ depth }
+    ensures tree { ConditionsNeedDepth }
+    ensures words { BracketsNeedDepth }
 {}
 
 /// Declarations that together use every alternative of the grammar, with their trees. The control has 5 brackets open at once.

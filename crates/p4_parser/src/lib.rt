@@ -8,8 +8,6 @@ mod grammar_examples;
 mod grammar_laws;
 mod parsing;
 mod states;
-#[cfg(test)]
-mod tests;
 
 pub use grammar_examples::{
     block_of_a_stage_is_one_statement, conditions_need_a_depth_of_their_number,
@@ -18,7 +16,7 @@ pub use grammar_examples::{
     touching_signs_close_two_types, worked_declarations_are_spelled,
 };
 pub use grammar_laws::{
-    law_of_begun_statements, law_of_greater_depths, law_of_open_brackets, law_of_open_ends,
-    no_table_has_two_key_properties,
+    law_of_begun_statements, law_of_few_declarations, law_of_greater_depths, law_of_open_brackets,
+    law_of_open_ends, no_table_has_two_key_properties,
 };
 pub use parsing::parse;

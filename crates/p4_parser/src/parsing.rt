@@ -1,13 +1,9 @@
-ghost use Rattle.std.specs.Prelude.{ℕ, ◌≤◌, ◌↔◌, IsTrue, List, codes, drop, length, IfErr, IfOk};
-ghost use Rattle.elastic_ast.specs.Seen.{seen_decl, seen_program};
-ghost use Rattle.elastic_ast.specs.Tree.{PlainDecl, PlainProgram};
-ghost use Rattle.spelling.specs.Words.{Word, words};
-ghost use Rattle.spelling.specs.Grammar.{Begins, IsReserved};
-ghost use Rattle.spelling.specs.Reading.{ahead, Takes, MayTake, IsReading, IsReadWithin, NamesAtMost};
-ghost use Rattle.p4_parser.specs.Declarations.{SpellsDeclaration, SpellsProgram};
-ghost use Rattle.p4_parser.specs.Reading.{DeclHasFew, ProgramHasFew};
-ghost use Rattle.spelling.specs.Bounds.{IfTooDeep, IfTooDeepAt, PassedAt};
-ghost use Rattle.p4_parser.specs.Reaching.{ProgramPassed};
+ghost use Rattle.std.specs.Prelude.{◌↔◌, IsTrue, length, IfErr, IfOk};
+ghost use Rattle.elastic_ast.specs.Seen.{seen_program};
+ghost use Rattle.spelling.specs.Words.{words};
+ghost use Rattle.spelling.specs.Reading.{ahead, NamesAtMost};
+ghost use Rattle.p4_parser.specs.Parsing.{AnswersProgram, BeginsControl, PassedBetween, PassedFirst, SpelledIn};
+ghost use Rattle.p4_parser.specs.Reading.{ProgramHasFew, ReadsDecl};
 
 use crate::controls::control;
 use crate::states::parser;
@@ -31,10 +27,10 @@ pub fn parse(
     tokens: &[Token],
     most_depth: u32,
 ) -> Result<Program, SyntaxError>
-    ensures spelled { IfOk result (λ program. SpellsProgram most_depth (seen_program program) (words text.now tokens.now)) }
+    ensures spelled { SpelledIn most_depth (words text.now tokens.now) result }
     ensures operators { IfOk result (λ program. ProgramHasFew (seen_program program)) }
-    ensures only { (more : ℕ) (program : PlainProgram) → SpellsProgram more program (words text.now tokens.now) → IsReadWithin ((more ≤ most_depth) × ProgramHasFew program) seen_program program result }
-    ensures deep { IfErr result (IfTooDeepAt (PassedAt (ProgramPassed most_depth) text.now tokens.now 0)) }
+    ensures only { AnswersProgram most_depth (words text.now tokens.now) result }
+    ensures deep { PassedFirst most_depth text.now tokens.now result }
     ensures named { IfErr result (NamesAtMost (length tokens.now)) }
 {
     let mut reader = Reader::new(text, tokens);
@@ -46,10 +42,10 @@ pub fn parse(
 
 /// Reads declarations up to the end of the tokens. A refusal may name a token past it.
 fn declarations(alloc: Global, reader: &mut Reader<'_>, depth: u32) -> Result<Program, SyntaxError>
-    ensures spelled { IfOk result (λ program. SpellsProgram depth (seen_program program) (ahead reader.old)) }
+    ensures spelled { SpelledIn depth (ahead reader.old) result }
     ensures operators { IfOk result (λ program. ProgramHasFew (seen_program program)) }
-    ensures only { (more : ℕ) (program : PlainProgram) → SpellsProgram more program (ahead reader.old) → IsReadWithin ((more ≤ depth) × ProgramHasFew program) seen_program program result }
-    ensures deep { IfErr result (IfTooDeep (ProgramPassed depth (ahead reader.old) (ahead reader.new))) }
+    ensures only { AnswersProgram depth (ahead reader.old) result }
+    ensures deep { PassedBetween depth reader.old reader.new result }
 {
     let mut decls = Items::new(alloc);
     'decls: while !reader.is_done() {
@@ -61,10 +57,7 @@ fn declarations(alloc: Global, reader: &mut Reader<'_>, depth: u32) -> Result<Pr
 
 /// Reads one declaration, which its first words determine.
 fn declaration(alloc: Global, reader: &mut Reader<'_>, depth: u32) -> Result<Decl, SyntaxError>
-    ensures taken { IfOk result (λ decl. Takes (SpellsDeclaration depth (seen_decl decl)) (ahead reader.old) (ahead reader.new)) }
-    ensures few { IfOk result (λ decl. DeclHasFew (seen_decl decl)) }
-    ensures only { (more : ℕ) (decl : PlainDecl) (rest : List Word) → MayTake (SpellsDeclaration more decl) (ahead reader.old) rest → IsReading ((more ≤ depth) × DeclHasFew decl) seen_decl decl rest (ahead reader.new) result }
-    ensures deep { IfErr result (IfTooDeep (ProgramPassed depth (ahead reader.old) (ahead reader.new))) }
+    ensures { ReadsDecl depth reader.old reader.new result }
 {
     if reader.is_at_reserved(b"parser") {
         return parser(alloc, reader, depth);
@@ -77,7 +70,7 @@ fn declaration(alloc: Global, reader: &mut Reader<'_>, depth: u32) -> Result<Dec
 
 /// Whether a control stands next that is no deparser: that has no `packet_out` behind its bracket.
 fn is_at_control(reader: &Reader<'_>) -> bool
-    ensures { IsTrue result ↔ Begins (IsReserved (codes "control")) (ahead reader.now) × Begins (IsReserved (codes "inout")) (drop 3 (ahead reader.now)) }
+    ensures { IsTrue result ↔ BeginsControl (ahead reader.now) }
 {
     reader.is_at_reserved(b"control") && reader.later(3).is_at_reserved(b"inout")
 }

@@ -1,7 +1,5 @@
 -- Words at fixed places of a statement, by which its form is told.
-use Rattle.std.proofs.Common.{◌≡◌, ℕ, zero, suc, Bool, true, false, List, [], ◌∷◌, drop, Option, Some, None, codes, refl, ap, ◌⊎◌, inl, inr, IsTrue, Result, Ok, Err}
-use Rattle.std.proofs.lemmas.Bool.{false≢true}
-use Rattle.std.specs.Result.{IfOk}
+use Rattle.std.proofs.Common.{◌≡◌, ℕ, zero, suc, Bool, true, false, List, [], ◌∷◌, drop, Option, Some, None, codes, refl, ap, ◌⊎◌, inl, inr}
 use Rattle.p4_lexer.specs.declared.token.Kind.TheVariants as kind
 use Rattle.elastic_ast.specs.declared.statements.Lval.{Lval}
 use Rattle.elastic_ast.specs.declared.statements.Lval.TheVariants as lval
@@ -164,20 +162,11 @@ read_ahead more register cell {a = a} m =
       | inr h ↦ (first, inr (h.0, at_second (Begins (IsNamed (codes "read"))) a h.1, at_third (Begins (IsSign (codes "("))) a h.2))
     ]
 
--- a test that denied it
-pub not_true : IsTrue false → ⊥
-not_true h = false≢true h
-
 pub no_write : (more : ℕ) (register : RegRef) (cell value : PlainExpr) {a c : List Word} → MayTake (SpellsPlain more (PlainStmt.Write register cell value)) a c → (Begins (IsSign (codes "[")) (drop 1 a) → ⊥) → (Begins (IsSign (codes "(")) (drop 3 a) → ⊥) → ⊥
 no_write more register cell value m no_index no_call = elim (write_ahead more register cell value m) [ inl h ↦ no_index h | inr h ↦ no_call h ]
 
 pub reads_on : (a : List Word) → IsReadAhead a → (Begins (IsSign (codes "[")) (drop 1 a) → Begins (λ word. word.kind ≡ kind.Name) (drop 2 a) → ⊥) → (Begins (IsSign (codes ".")) (drop 1 a) → Begins (IsNamed (codes "read")) (drop 2 a) → Begins (IsSign (codes "(")) (drop 3 a) → ⊥) → ⊥
 reads_on a r no_index no_call = elim r.1 [ inl h ↦ no_index h.0 h.1 | inr h ↦ no_call h.0 h.1 h.2 ]
-
--- what holds of each thing that is read
-pub if_ok_as : {A E : Type 0} (P Q : A → Type 0) (r : Result A E) → ((x : A) → P x → Q x) → IfOk r P → IfOk r Q
-if_ok_as P Q (Ok x) f h = f x h
-if_ok_as P Q (Err e) f h = tt
 
 place_first : (more : ℕ) (to : Lval) {Q : Grammar} {a c : List Word} → MayTake (SpellsLval more to ⨟ Q) a c → Begins (λ word. word.kind ≡ kind.Name) a
 place_first more (lval.Header header field) {a = a} m = begins_as (λ word h. h.0) a (begins_first (regroup (regroup m)))

@@ -1,5 +1,5 @@
 -- The forms of statements, each told by its first word, as rows of words.
-use Rattle.std.proofs.Common.{◌≡◌, ◌-◌, ℕ, zero, suc, arith, Bool, true, false, List, ◌++◌, Option, Some, None, codes, refl, sym, ap, ◌∙◌, ◌⊎◌, inl, inr, append_assoc}
+use Rattle.std.proofs.Common.{◌≡◌, ◌-◌, ℕ, zero, suc, arith, Bool, true, false, List, ◌++◌, Option, Some, None, codes, refl, sym, ap, ◌∙◌, ◌⊎◌, inl, inr, append_assoc, cond}
 use Rattle.p4_lexer.specs.declared.token.Kind.TheVariants as kind
 use Rattle.elastic_ast.specs.Tree.{Name, PlainExpr, PlainStmt, PlainStmts}
 use Rattle.spelling.specs.Words.{Word}

@@ -2,6 +2,7 @@ pub mod Validity
 pub mod Ahead
 pub mod NoRead
 pub mod Lists
+pub mod FewReading
 pub mod ExprFirst
 pub mod Arguments
 pub mod Heads

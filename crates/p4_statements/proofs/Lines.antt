@@ -1,12 +1,11 @@
 -- Where statements without statements in them pass a bound: what more stands before, in the same line.
-use Rattle.std.proofs.Common.{◌≡◌, ℕ, ◌+◌, List, [], codes, refl, sym, subst, arith}
+use Rattle.std.proofs.Common.{◌≡◌, ℕ, List, [], sym, subst, arith}
 use Rattle.spelling.specs.Words.{Word}
-use Rattle.spelling.specs.Grammar.{Grammar, Sign}
-use Rattle.spelling.specs.Reading.{Takes, MayTake}
+use Rattle.spelling.specs.Grammar.{Grammar}
+use Rattle.spelling.specs.Reading.{MayTake}
 use Rattle.spelling.specs.Bounds.{Line, OpensNext, Stops}
 use Rattle.spelling.proofs.Balance.{Stays}
-use Rattle.spelling.proofs.Bounds.{InLine, in_line, in_sign, line_none, line_open, stop_line}
-use Rattle.spelling.proofs.Taking.{may}
+use Rattle.spelling.proofs.Bounds.{InLine, in_line, line_none, stop_line}
 use Rattle.p4_expr.specs.Passing.{BoundPassed}
 use Rattle.p4_expr.proofs.Bound.{bound_line}
 
@@ -15,10 +14,6 @@ past depth m stays inside p = bound_line depth 0 depth (omega arith) (in_line de
 
 pub stop_after : {Of : Grammar} {a b c : List Word} (depth : ℕ) → MayTake Of a b → Stays depth Of → InLine Of → Stops (Line depth) OpensNext b c → Stops (Line depth) OpensNext a c
 stop_after depth m stays inside s = stop_line depth 0 depth (omega arith) (in_line depth stays inside m) s
-
--- behind an opening bracket one fewer may be open
-pub past_open : {a b c : List Word} (depth inner : ℕ) → depth ≡ inner + 1 → Takes (Sign (codes "(")) a b → BoundPassed (Line inner) 0 b c → BoundPassed (Line depth) 0 a c
-past_open depth inner e o p = bound_line depth 1 inner (omega (arith, e)) (line_open (codes "(") refl (in_sign (codes "(") refl refl refl) (may o)) p
 
 -- an opening bracket that may not open stands where the line begins
 pub line_here : {depth : ℕ} {a b : List Word} → b ≡ a → OpensNext a × (depth ≡ 0) → Stops (Line depth) OpensNext a b

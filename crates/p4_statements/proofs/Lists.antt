@@ -1,11 +1,19 @@
 -- A list of statements as a list of the library, and how few operators the expressions of its statements have.
-use Rattle.std.proofs.Common.{◌≡◌, ℕ, Bool, List, [], ◌∷◌, ◌++◌, All, codes, refl, ap, sym, subst}
+use Rattle.spelling.proofs.Limits.{or_as}
+use Rattle.std.proofs.Common.{◌≡◌, ℕ, Bool, List, [], ◌∷◌, ◌++◌, All, codes, refl, ap, sym, subst, Result, map, ◌∙◌, ◌≤◌, Ok, Err}
 use Rattle.std.proofs.lemmas.List.Elements.{All-append, All-cons, All-head, All-nil, All-tail}
-use Rattle.elastic_ast.specs.Seen.{joined}
 use Rattle.elastic_ast.specs.Tree.{PlainExpr, PlainStmt, PlainStmts}
+use denote.Ref.{MutBor}
+use Rattle.std.specs.Prelude.{OnOk}
+use Rattle.elastic_ast.specs.declared.statements.Stmt.{Stmt}
+use Rattle.elastic_ast.specs.Seen.{joined, seen_stmt, seen_stmts}
+use Rattle.spelling.specs.Readers.{Until, Ended, Refused, Wanting}
+use Rattle.spelling.specs.declared.error.SyntaxError.{SyntaxError}
+use Rattle.spelling.specs.declared.reader.Reader.{Reader}
+use Rattle.spelling.proofs.ByParts.{EachFew}
 use Rattle.spelling.specs.Words.{Word}
 use Rattle.spelling.specs.Grammar.{Grammar, Begins, Each, IsReserved, IsSign}
-use Rattle.spelling.specs.Reading.{MayTake}
+use Rattle.spelling.specs.Reading.{MayTake, IsReading, ahead}
 use Rattle.spelling.proofs.Only.{empty_same, not_sign, reserved_no_sign, split}
 use Rattle.p4_expr.specs.Expressions.{HasFewOperators}
 use Rattle.p4_statements.specs.ExpressionsIn.{expressions_of, expressions_of_all}
@@ -97,3 +105,17 @@ else_few stmt condition body other e few =
     let f = subst HasFew e few in
     let t = All-tail HasFewOperators condition (expressions_of_all body ++ expressions_of_all other) f in
     (All-head HasFewOperators condition (expressions_of_all body ++ expressions_of_all other) f, all_front HasFewOperators (expressions_of_all body) (expressions_of_all other) t, all_back HasFewOperators (expressions_of_all body) (expressions_of_all other) t)
+
+-- few operators are used in a list of statements as in each of them
+pub few_listed : EachFew HasFew (λ ss. HaveFew (joined ss))
+few_listed = record { nothing = All-nil HasFewOperators; push = few_push; next = few_one }
+
+-- what is read as a list, as statements
+pub reading_joined : (more depth : ℕ) (stmts : PlainStmts) (rest now : List Word) (r : Result (List Stmt) SyntaxError) → IsReading ((more ≤ depth) × HaveFew (joined (listed stmts))) (map seen_stmt) (listed stmts) rest now r → IsReading ((more ≤ depth) × HaveFew stmts) seen_stmts stmts rest now r
+reading_joined more depth stmts rest now (Ok read) r = (ap joined r.0 ∙ joined_listed stmts, r.1)
+reading_joined more depth stmts rest now (Err e) r = or_as _ _ e (λ few. (few.0, subst HaveFew (sym (joined_listed stmts)) few.1)) r
+
+pub ends_there : {A : Type 0} {Stop : Grammar} {Calls : MutBor Reader → Result A SyntaxError → MutBor Reader → Type 0} {before after : Reader} {result : Result (List A) SyntaxError} → Until Stop Calls before after result → OnOk result (Stop (ahead after))
+ends_there (Ended xs o at) = at
+ends_there (Refused xs old new e o not_at call same) = tt
+ends_there (Wanting e want) = tt

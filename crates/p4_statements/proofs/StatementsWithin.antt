@@ -1,4 +1,5 @@
 -- A statement opens no more brackets than its depth allows, and closes those that it opens.
+use Rattle.spelling.proofs.Limits.{inside}
 use Rattle.std.proofs.Common.{ℕ, suc, Bool, true, false, List, Option, None, Some, codes, refl, sym, subst, arith}
 use Rattle.elastic_ast.specs.Tree.{Name, PlainExpr, PlainStmt, PlainStmts}
 use Rattle.spelling.specs.Words.{Word}

@@ -1,15 +1,23 @@
 -- What the readers of statements take and answer, this project's own.
-use Rattle.std.specs.Prelude.{◌≡◌, ℕ, Bool, true, List, All, codes, drop, ◌⊎◌}
+use Rattle.std.specs.Prelude.{◌≡◌, ℕ, ◌≤◌, Bool, true, List, Option, All, Result, IfOk, IfErr, OnOk, codes, drop, ◌⊎◌}
 use Rattle.p4_lexer.specs.declared.token.Kind.TheVariants as kind
 use Rattle.elastic_ast.specs.declared.statements.Lval.{Lval}
 use Rattle.elastic_ast.specs.declared.statements.RegRef.{RegRef}
-use Rattle.elastic_ast.specs.Tree.{PlainExpr, PlainStmt, PlainStmts}
+use Rattle.elastic_ast.specs.declared.statements.Expr.{Expr}
+use Rattle.elastic_ast.specs.declared.statements.Stmt.{Stmt}
+use Rattle.elastic_ast.specs.Seen.{seen_expr, seen_exprs, seen_stmt, seen_stmts}
+use Rattle.elastic_ast.specs.Tree.{Name, PlainExpr, PlainStmt, PlainStmts}
 use Rattle.spelling.specs.Words.{Word}
-use Rattle.spelling.specs.Grammar.{Grammar, ◌⨟◌, Begins, Bracketed, IsNamed, IsReserved, IsSign, Named, Sign}
-use Rattle.spelling.specs.Reading.{Takes}
+use Rattle.spelling.specs.Grammar.{Grammar, ◌⨟◌, Begins, Bracketed, Commas, IsNamed, IsReserved, IsSign, Named, Separated, Sign}
+use Rattle.spelling.specs.Bounds.{IfTooDeep, Line, Opens}
+use Rattle.spelling.specs.Reading.{ahead, IsReading, MayTake, Takes}
+use Rattle.spelling.specs.declared.error.SyntaxError.{SyntaxError}
+use Rattle.spelling.specs.declared.reader.Reader.{Reader}
+use Rattle.spelling.specs.Readers.{ReadsFew, ReadsFewBefore, ReadsFewUpTo, ReadsLineMade}
+use Rattle.p4_expr.specs.Passing.{BoundPassed}
 use Rattle.p4_expr.specs.Parts.{SpellsRegister}
 use Rattle.p4_expr.specs.Expressions.{HasFewOperators, SpellsExpr}
-use Rattle.p4_statements.specs.Statements.{SpellsApply, SpellsCall, SpellsPlain}
+use Rattle.p4_statements.specs.Statements.{SpellsApply, SpellsCall, SpellsPlain, SpellsPlains}
 use Rattle.p4_statements.specs.ExpressionsIn.{expressions_of, expressions_of_all}
 
 -- a statement that has no statement in it
@@ -63,3 +71,94 @@ HasFew stmt = All HasFewOperators (expressions_of stmt)
 
 abbrev pub HaveFew : PlainStmts → Type 0
 HaveFew stmts = All HasFewOperators (expressions_of_all stmts)
+
+-- A reader with bounds of a thing that is made of some others, and of no other thing that the grammar spells.
+pub record ReadsFewMade {A B I : Type 0} (Of : ℕ → B → Grammar) (seen : A → B) (made : I → B) (Few : B → Type 0) (Passed : List Word → List Word → Type 0) (depth : ℕ) (before after : Reader) (result : Result A SyntaxError) : Type 0 where
+  pub taken : IfOk result (λ read. Takes (Of depth (seen read)) (ahead before) (ahead after))
+  pub few : IfOk result (λ read. Few (seen read))
+  pub only : (more : ℕ) (of : I) (rest : List Word) → MayTake (Of more (made of)) (ahead before) rest → IsReading ((more ≤ depth) × Few (made of)) seen (made of) rest (ahead after) result
+  pub deep : IfErr result (IfTooDeep (Passed (ahead before) (ahead after)))
+
+-- a bound is passed within one statement without statements in it
+abbrev pub LinePassed : ℕ → List Word → List Word → Type 0
+LinePassed depth before after = BoundPassed (Line depth) 0 before after
+
+-- A reader of an expression, perhaps with words around it.
+abbrev pub ReadsExpr : (ℕ → PlainExpr → Grammar) → (depth : ℕ) → (before after : Reader) → Result Expr SyntaxError → Type 0
+ReadsExpr Of depth = ReadsFew Of seen_expr HasFewOperators (LinePassed depth) depth
+
+-- expr ',' expr
+abbrev pub SpellsTwo : ℕ → PlainExpr × PlainExpr → Grammar
+SpellsTwo depth both = SpellsExpr depth both.0 ⨟ Sign (codes ",") ⨟ SpellsExpr depth both.1
+
+abbrev pub seen_two : Expr × Expr → PlainExpr × PlainExpr
+seen_two both = (seen_expr both.0, seen_expr both.1)
+
+abbrev pub ReadsTwo : (ℕ → PlainExpr × PlainExpr → Grammar) → (depth : ℕ) → (before after : Reader) → Result (Expr × Expr) SyntaxError → Type 0
+ReadsTwo Of depth = ReadsFew Of seen_two (λ both. HasFewOperators both.0 × HasFewOperators both.1) (LinePassed depth) depth
+
+abbrev pub ReadsTwoUpTo : (ℕ → PlainExpr × PlainExpr → Grammar) → (depth : ℕ) → (before after : Reader) → Result (Expr × Expr) SyntaxError → Type 0
+ReadsTwoUpTo Of depth = ReadsFewUpTo (Begins (IsSign (codes ")"))) Of seen_two (λ both. HasFewOperators both.0 × HasFewOperators both.1) (LinePassed depth) depth
+
+-- A reader of the arguments of a call, and of expressions with commas between them.
+abbrev pub ReadsExprs : (ℕ → List PlainExpr → Grammar) → (depth : ℕ) → (before after : Reader) → Result (List Expr) SyntaxError → Type 0
+ReadsExprs Of depth = ReadsFew Of seen_exprs (λ es. All HasFewOperators es) (LinePassed depth) depth
+
+abbrev pub ReadsExprsUpTo : (ℕ → List PlainExpr → Grammar) → (depth : ℕ) → (before after : Reader) → Result (List Expr) SyntaxError → Type 0
+ReadsExprsUpTo Of depth = ReadsFewUpTo (Begins (IsSign (codes ")"))) Of seen_exprs (λ es. All HasFewOperators es) (LinePassed depth) depth
+
+-- A reader of a statement without statements in it, and of one form of such.
+abbrev pub ReadsStmt : (ℕ → PlainStmt → Grammar) → (depth : ℕ) → (before after : Reader) → Result Stmt SyntaxError → Type 0
+ReadsStmt Of depth = ReadsFew Of seen_stmt HasFew (LinePassed depth) depth
+
+abbrev pub ReadsForm : {I : Type 0} → (ℕ → PlainStmt → Grammar) → (I → PlainStmt) → (depth : ℕ) → (before after : Reader) → Result Stmt SyntaxError → Type 0
+ReadsForm Of made depth = ReadsFewMade Of seen_stmt made HasFew (LinePassed depth) depth
+
+abbrev pub a_write : RegRef × PlainExpr × PlainExpr → PlainStmt
+a_write of = PlainStmt.Write of.0 of.1 of.2
+
+abbrev pub a_call : Name × Option Name × List PlainExpr → PlainStmt
+a_call of = PlainStmt.Call of.0 of.1 of.2
+
+-- expr (',' expr)*, and perhaps none
+abbrev pub SpellsExprList : ℕ → List PlainExpr → Grammar
+SpellsExprList depth es = Separated (Sign (codes ",")) (SpellsExpr depth) es
+
+abbrev pub SpellsArguments : ℕ → List PlainExpr → Grammar
+SpellsArguments depth es = Commas (SpellsExpr depth) es
+
+abbrev pub ReadsExprsBefore : (ℕ → List PlainExpr → Grammar) → (depth : ℕ) → (before after : Reader) → Result (List Expr) SyntaxError → Type 0
+ReadsExprsBefore Of depth = ReadsFewBefore (Begins (IsSign (codes ")"))) Of seen_exprs (λ es. All HasFewOperators es) (LinePassed depth) depth
+
+-- A reader of an application of a table, and of a change of a header's validity.
+abbrev pub ReadsApply : (depth : ℕ) → (before after : Reader) → Result Stmt SyntaxError → Type 0
+ReadsApply depth = ReadsLineMade (λ _. Unit {0}) SpellsSimple seen_stmt PlainStmt.Apply depth
+
+abbrev pub a_change : Name × Bool → PlainStmt
+a_change of = PlainStmt.Valid of.0 of.1
+
+abbrev pub ReadsChange : (depth : ℕ) → (before after : Reader) → Result Stmt SyntaxError → Type 0
+ReadsChange depth = ReadsLineMade (λ _. Unit {0}) SpellsPlain seen_stmt a_change depth
+
+-- the bracket of a block stands first
+abbrev pub OpensNextBlock : Grammar
+OpensNextBlock = Begins (IsSign (codes "{"))
+
+-- A reader of what stands behind `=`: a read of a register, or an expression.
+pub record ReadsRead (depth : ℕ) (to : Lval) (before after : Reader) (result : Result Stmt SyntaxError) : Type 0 where
+  pub taken : IfOk result (λ stmt. ReadsInto depth to (ahead before) (ahead after) (seen_stmt stmt))
+  pub only : (more : ℕ) (register : RegRef) (cell : PlainExpr) (rest : List Word) → MayTake (SpellsReadOf more register cell) (ahead before) rest → IsReading ((more ≤ depth) × HasFewOperators cell) seen_stmt (PlainStmt.Read to register cell) rest (ahead after) result
+  pub deep : IfErr result (IfTooDeep (LinePassed depth (ahead before) (ahead after)))
+
+pub record ReadsAssign (depth : ℕ) (to : Lval) (before after : Reader) (result : Result Stmt SyntaxError) : Type 0 where
+  pub taken : IfOk result (λ stmt. Assigns depth to (ahead before) (ahead after) (seen_stmt stmt))
+  pub only : (more : ℕ) (value : PlainExpr) (rest : List Word) → MayTake (SpellsExpr more value ⨟ Sign (codes ";")) (ahead before) rest → IsReading ((more ≤ depth) × HasFewOperators value) seen_stmt (PlainStmt.Assign to value) rest (ahead after) result
+  pub deep : IfErr result (IfTooDeep (LinePassed depth (ahead before) (ahead after)))
+
+-- A reader of plain statements, which ends before a closing bracket.
+pub record ReadsPlains (depth : ℕ) (before after : Reader) (result : Result (List Stmt) SyntaxError) : Type 0 where
+  pub taken : IfOk result (λ stmts. MayTake (SpellsPlains depth (seen_stmts stmts)) (ahead before) (ahead after))
+  pub few : IfOk result (λ stmts. HaveFew (seen_stmts stmts))
+  pub ended : OnOk result (Begins (IsSign (codes "}")) (ahead after))
+  pub only : (more : ℕ) (stmts : PlainStmts) (rest : List Word) → MayTake (SpellsPlains more stmts) (ahead before) rest → Begins (IsSign (codes "}")) rest → IsReading ((more ≤ depth) × HaveFew stmts) seen_stmts stmts rest (ahead after) result
+  pub deep : IfErr result (IfTooDeep (BoundPassed (Opens depth) 0 (ahead before) (ahead after)))

@@ -4,6 +4,7 @@ use Rattle.std.specs.Prelude.{◌≡◌, ℕ, suc, ◌<◌, ◌^◌, Bool, true,
 use Rattle.elastic_ast.specs.Tree.{Name, PlainExpr, PlainStmt, PlainStmts}
 use Rattle.spelling.specs.Words.{Word}
 use Rattle.spelling.specs.Grammar.{Grammar, Empty, Nothing, ◌⨟◌, Where, Commas, Sign, Reserved, Named, Num, Bracketed}
+use Rattle.spelling.specs.Readers.{InRound}
 use Rattle.p4_expr.specs.Parts.{SpellsHeader, SpellsIndex, SpellsLval, SpellsNoArguments, SpellsRegister}
 use Rattle.p4_expr.specs.Expressions.{SpellsExpr}
 
@@ -43,9 +44,16 @@ SpellsStage depth (Some stage) = Where (stage < 2 ^ 8) (Sign (codes "@") ⨟ Nam
 abbrev pub SpellsCondition : ℕ → PlainExpr → Grammar
 SpellsCondition depth condition = Reserved (codes "if") ⨟ Bracketed (codes "(") (codes ")") depth (λ inner. SpellsExpr inner condition)
 
+-- N '<' N
+abbrev pub SpellsTurn : Name × Name → Grammar
+SpellsTurn turn = Named turn.0 ⨟ Sign (codes "<") ⨟ Named turn.1
+
 -- 'for' '(' N '<' N ')'
+abbrev pub SpellsFor : ℕ → Name × Name → Grammar
+SpellsFor depth turn = Reserved (codes "for") ⨟ InRound (λ _. SpellsTurn) depth turn
+
 abbrev pub SpellsTurns : ℕ → Name → Name → Grammar
-SpellsTurns depth index size = Reserved (codes "for") ⨟ Bracketed (codes "(") (codes ")") depth (λ _. Named index ⨟ Sign (codes "<") ⨟ Named size)
+SpellsTurns depth index size = SpellsFor depth (index, size)
 
 -- N ['[' N ']'] '(' expr,* ')' ';'
 abbrev pub SpellsCall : ℕ → Name → Option Name → List PlainExpr → Grammar

@@ -1,29 +1,19 @@
 //! Calls of actions and applications of tables.
 
-ghost use Rattle.std.specs.Prelude.{ℕ, ◌≤◌, List, Option, All, codes, IfOk, IfErr};
-ghost use Rattle.elastic_ast.specs.Seen.{seen_stmt, seen_exprs};
-ghost use Rattle.elastic_ast.specs.Tree.{PlainExpr, PlainStmt};
-ghost use Rattle.spelling.specs.Words.{Word};
-ghost use Rattle.spelling.specs.Grammar.{Begins, Bracketed, Commas, IsSign, Separated, Sign};
-ghost use Rattle.spelling.specs.Reading.{ahead, Takes, MayTake, IsReading};
-ghost use Rattle.p4_expr.specs.Expressions.{SpellsExpr, HasFewOperators};
-ghost use Rattle.p4_statements.specs.Statements.{SpellsApply, SpellsCall};
-ghost use Rattle.p4_statements.specs.Reading.{HasFew, SpellsSimple};
-ghost use Rattle.spelling.specs.Bounds.{IfTooDeep, Line, OpensNext, Stops};
-ghost use Rattle.p4_expr.specs.Passing.{BoundPassed};
+ghost use Rattle.std.specs.Prelude.{IfOk};
+ghost use Rattle.elastic_ast.specs.Seen.{seen_stmt};
+ghost use Rattle.spelling.specs.Readers.{InRound};
+ghost use Rattle.p4_statements.specs.Reading.{HasFew, ReadsApply, ReadsExprs, ReadsExprsBefore, ReadsExprsUpTo, ReadsForm, SpellsArguments, SpellsExprList, SpellsSimple, a_call};
 
 use elastic_ast::{Expr, Stmt};
 use elx_bits::Items;
 use p4_expr::{index, no_arguments, read_expr};
-use spelling::{Reader, SyntaxError, keep};
+use spelling::{Reader, SyntaxError, in_brackets, keep};
 use std::alloc::Global;
 
 /// `ACTION(ARGUMENTS);` or `ACTION[INDEX](ARGUMENTS);`
 pub fn call(alloc: Global, reader: &mut Reader<'_>, depth: u32) -> Result<Stmt, SyntaxError>
-    ensures taken { IfOk result (λ stmt. Takes (SpellsSimple depth (seen_stmt stmt)) (ahead reader.old) (ahead reader.new)) }
-    ensures few { IfOk result (λ stmt. HasFew (seen_stmt stmt)) }
-    ensures only { (more : ℕ) (action : List ℕ) (index : Option (List ℕ)) (args : List PlainExpr) (rest : List Word) → MayTake (SpellsCall more action index args) (ahead reader.old) rest → IsReading ((more ≤ depth) × All HasFewOperators args) seen_stmt (PlainStmt.Call action index args) rest (ahead reader.new) result }
-    ensures deep { IfErr result (IfTooDeep (BoundPassed (Line depth) 0 (ahead reader.old) (ahead reader.new))) }
+    ensures { ReadsForm SpellsSimple a_call depth reader.old reader.new result }
 {
     let action = reader.name(alloc)?;
     let index = index(alloc, reader, depth)?;
@@ -38,10 +28,8 @@ pub fn call(alloc: Global, reader: &mut Reader<'_>, depth: u32) -> Result<Stmt, 
 
 /// `TABLE.apply();`
 pub fn apply(alloc: Global, reader: &mut Reader<'_>, depth: u32) -> Result<Stmt, SyntaxError>
-    ensures taken { IfOk result (λ stmt. Takes (SpellsSimple depth (seen_stmt stmt)) (ahead reader.old) (ahead reader.new)) }
     ensures few { IfOk result (λ stmt. HasFew (seen_stmt stmt)) }
-    ensures only { (more : ℕ) (table : List ℕ) (rest : List Word) → MayTake (SpellsApply more table) (ahead reader.old) rest → IsReading (more ≤ depth) seen_stmt (PlainStmt.Apply table) rest (ahead reader.new) result }
-    ensures deep { IfErr result (IfTooDeep (Stops (Line depth) OpensNext (ahead reader.old) (ahead reader.new))) }
+    ensures reads { ReadsApply depth reader.old reader.new result }
 {
     let table = reader.name(alloc)?;
     reader.sign(b".")?;
@@ -53,18 +41,29 @@ pub fn apply(alloc: Global, reader: &mut Reader<'_>, depth: u32) -> Result<Stmt,
 
 /// Expressions between brackets, with a comma between each two.
 fn arguments(alloc: Global, reader: &mut Reader<'_>, depth: u32) -> Result<Items<Expr>, SyntaxError>
-    ensures taken { IfOk result (λ args. Takes (Bracketed (codes "(") (codes ")") depth (λ inner. Commas (SpellsExpr inner) (seen_exprs args))) (ahead reader.old) (ahead reader.new)) }
-    ensures few { IfOk result (λ args. All HasFewOperators (seen_exprs args)) }
-    ensures only { (more : ℕ) (args : List PlainExpr) (rest : List Word) → MayTake (Bracketed (codes "(") (codes ")") more (λ inner. Commas (SpellsExpr inner) args)) (ahead reader.old) rest → IsReading ((more ≤ depth) × All HasFewOperators args) seen_exprs args rest (ahead reader.new) result }
-    ensures deep { IfErr result (IfTooDeep (BoundPassed (Line depth) 0 (ahead reader.old) (ahead reader.new))) }
+    ensures { ReadsExprs (InRound SpellsArguments) depth reader.old reader.new result }
 {
-    let inner = reader.open(b"(", depth)?;
-    if reader.eat_sign(b")") {
+    in_brackets(
+        reader,
+        b"(",
+        b")",
+        depth,
+        |reader, inner| argument_list(alloc, reader, inner),
+    )
+}
+
+/// Expressions with a comma between each two, perhaps none, up to the closing bracket.
+fn argument_list(
+    alloc: Global,
+    reader: &mut Reader<'_>,
+    depth: u32,
+) -> Result<Items<Expr>, SyntaxError>
+    ensures { ReadsExprsUpTo SpellsArguments depth reader.old reader.new result }
+{
+    if reader.is_at_sign(b")") {
         return Ok(Items::new(alloc));
     }
-    let args = expressions(alloc, reader, inner)?;
-    reader.sign(b")")?;
-    Ok(args)
+    expressions(alloc, reader, depth)
 }
 
 /// At least one expression, with a comma between each two.
@@ -73,10 +72,7 @@ fn expressions(
     reader: &mut Reader<'_>,
     depth: u32,
 ) -> Result<Items<Expr>, SyntaxError>
-    ensures taken { IfOk result (λ args. Takes (Separated (Sign (codes ",")) (SpellsExpr depth) (seen_exprs args)) (ahead reader.old) (ahead reader.new)) }
-    ensures few { IfOk result (λ args. All HasFewOperators (seen_exprs args)) }
-    ensures only { (more : ℕ) (args : List PlainExpr) (rest : List Word) → MayTake (Separated (Sign (codes ",")) (SpellsExpr more) args) (ahead reader.old) rest → Begins (IsSign (codes ")")) rest → IsReading ((more ≤ depth) × All HasFewOperators args) seen_exprs args rest (ahead reader.new) result }
-    ensures deep { IfErr result (IfTooDeep (BoundPassed (Line depth) 0 (ahead reader.old) (ahead reader.new))) }
+    ensures { ReadsExprsBefore SpellsExprList depth reader.old reader.new result }
 {
     let mut exprs = Items::new(alloc);
     let first = read_expr(alloc, reader, depth)?;

@@ -1,14 +1,10 @@
 //! Statements that have no statement in them.
 
-ghost use Rattle.std.specs.Prelude.{ℕ, ◌≤◌, ◌↔◌, IsTrue, List, codes, drop, IfOk, IfErr};
-ghost use Rattle.elastic_ast.specs.Seen.{seen_stmt};
-ghost use Rattle.elastic_ast.specs.Tree.{PlainStmt};
-ghost use Rattle.spelling.specs.Words.{Word};
-ghost use Rattle.spelling.specs.Grammar.{Begins, IsNamed, IsSign};
-ghost use Rattle.spelling.specs.Reading.{ahead, Takes, MayTake, IsReading};
-ghost use Rattle.p4_statements.specs.Reading.{HasFew, SpellsSimple};
-ghost use Rattle.spelling.specs.Bounds.{IfTooDeep, Line};
-ghost use Rattle.p4_expr.specs.Passing.{BoundPassed};
+ghost use Rattle.std.specs.Prelude.{◌↔◌, IsTrue, codes, drop};
+ghost use Rattle.spelling.specs.Grammar.{Begins, IsSign};
+ghost use Rattle.spelling.specs.Reading.{ahead};
+ghost use Rattle.p4_statements.specs.WordsAhead.{IfIndexedCall, IsApplyAhead, IsCallAhead};
+ghost use Rattle.p4_statements.specs.Reading.{ReadsStmt, SpellsSimple};
 
 use crate::calls::{apply, call};
 use crate::plain::plain_statement;
@@ -23,10 +19,7 @@ pub fn simple_statement(
     reader: &mut Reader<'_>,
     depth: u32,
 ) -> Result<Stmt, SyntaxError>
-    ensures taken { IfOk result (λ stmt. Takes (SpellsSimple depth (seen_stmt stmt)) (ahead reader.old) (ahead reader.new)) }
-    ensures few { IfOk result (λ stmt. HasFew (seen_stmt stmt)) }
-    ensures only { (more : ℕ) (stmt : PlainStmt) (rest : List Word) → MayTake (SpellsSimple more stmt) (ahead reader.old) rest → IsReading ((more ≤ depth) × HasFew stmt) seen_stmt stmt rest (ahead reader.new) result }
-    ensures deep { IfErr result (IfTooDeep (BoundPassed (Line depth) 0 (ahead reader.old) (ahead reader.new))) }
+    ensures { ReadsStmt SpellsSimple depth reader.old reader.new result }
 {
     if is_at_call(reader) {
         return call(alloc, reader, depth);
@@ -40,8 +33,8 @@ pub fn simple_statement(
 /// Whether an action is called: the brackets of a call follow the name, or its index.
 fn is_at_call(reader: &Reader<'_>) -> bool
     ensures plain { Begins (IsSign (codes "(")) (drop 1 (ahead reader.now)) → IsTrue result }
-    ensures index { Begins (IsSign (codes "[")) (drop 1 (ahead reader.now)) → Begins (IsSign (codes "(")) (drop 4 (ahead reader.now)) → IsTrue result }
-    ensures none { IsTrue result → (Begins (IsSign (codes "(")) (drop 1 (ahead reader.now)) → ⊥) → (Begins (IsSign (codes "[")) (drop 1 (ahead reader.now)) → Begins (IsSign (codes "(")) (drop 4 (ahead reader.now)) → ⊥) → ⊥ }
+    ensures index { IfIndexedCall (ahead reader.now) (IsTrue result) }
+    ensures none { IsTrue result → IsCallAhead (ahead reader.now) }
 {
     reader.later(1).is_at_sign(b"(")
         || reader.later(1).is_at_sign(b"[") && reader.later(4).is_at_sign(b"(")
@@ -49,7 +42,7 @@ fn is_at_call(reader: &Reader<'_>) -> bool
 
 /// Whether a table is applied: `NAME.apply(`.
 fn is_at_apply(reader: &Reader<'_>) -> bool
-    ensures { IsTrue result ↔ Begins (IsNamed (codes "apply")) (drop 2 (ahead reader.now)) × Begins (IsSign (codes "(")) (drop 3 (ahead reader.now)) }
+    ensures { IsTrue result ↔ IsApplyAhead (ahead reader.now) }
 {
     reader.later(2).is_at_name(b"apply") && reader.later(3).is_at_sign(b"(")
 }

@@ -1,23 +1,19 @@
 //! The reader of statements.
 
-ghost use Rattle.std.specs.Prelude.{◌≡◌, ℕ, ◌≤◌, ◌↔◌, Bool, false, IsTrue, List, Option, codes, IfOk, OnOk, ◌⊎◌, IfErr, ◌<◌};
-ghost use Rattle.elastic_ast.specs.Seen.{seen_expr, seen_stmt, seen_stmts};
-ghost use Rattle.elastic_ast.specs.Tree.{PlainExpr, PlainStmt, PlainStmts};
-ghost use Rattle.spelling.specs.Words.{Word};
-ghost use Rattle.spelling.specs.Grammar.{Begins, Bracketed, IsReserved, IsSign};
-ghost use Rattle.spelling.specs.Reading.{ahead, Takes, MayTake, IsAnswer, IsReading};
-ghost use Rattle.p4_expr.specs.Expressions.{HasFewOperators};
-ghost use Rattle.p4_statements.specs.Statements.{SpellsBranch, SpellsCondition, SpellsStage, SpellsStmt, SpellsStmts, SpellsTurns};
-ghost use Rattle.p4_statements.specs.Reading.{EndsStmt, HasFew, HaveFew, TakesToEnd};
-ghost use Rattle.spelling.specs.Bounds.{IfTooDeep, Line, OpensNext, Stops};
-ghost use Rattle.p4_expr.specs.Passing.{BoundPassed};
+ghost use Rattle.std.specs.Prelude.{◌↔◌, IsTrue, IfOk, OnOk, ◌<◌};
+ghost use Rattle.elastic_ast.specs.Seen.{seen_stmt, seen_stmts};
+ghost use Rattle.spelling.specs.Reading.{ahead};
+ghost use Rattle.spelling.specs.Readers.{ClosesNext, itself, Reads, ReadsLine, ReadsLineUpTo};
 ghost use Rattle.p4_statements.specs.Begun.{BlockBegun, BranchBegun, StmtBegun, StmtsBegun};
+ghost use Rattle.p4_statements.specs.ReadingStatements.{AnswersBlock, AnswersBraces, AnswersBranch, AnswersIf, AnswersStmt, AnswersStmts, BeginsBlock, BeginsFor, DeepIn, TakesBlock, TakesBranch, TakesClosed, TakesStmt, TakesStmts};
+ghost use Rattle.p4_statements.specs.Reading.{HasFew, HaveFew, OpensNextBlock, ReadsExpr};
+ghost use Rattle.p4_statements.specs.Statements.{SpellsCondition, SpellsFor, SpellsStage, SpellsTurn};
 
 use crate::brackets::bracketed;
 use crate::simple::simple_statement;
 use elastic_ast::{Expr, Stmt};
 use elx_bits::{Items, Name};
-use spelling::{Reader, SyntaxError, keep};
+use spelling::{Reader, SyntaxError, in_brackets, keep};
 use std::alloc::Global;
 
 /// Reads statements up to a closing bracket. `depth` is how many brackets may be open from here on.
@@ -30,11 +26,11 @@ pub fn statements(
     reader: &mut Reader<'_>,
     depth: u32,
 ) -> Result<Items<Stmt>, SyntaxError>
-    ensures taken { IfOk result (λ stmts. MayTake (SpellsStmts depth (seen_stmts stmts)) (ahead reader.old) (ahead reader.new)) }
+    ensures taken { TakesStmts depth reader.old reader.new result }
     ensures few { IfOk result (λ stmts. HaveFew (seen_stmts stmts)) }
-    ensures ended { OnOk result (Begins (IsSign (codes "}")) (ahead reader.new)) }
-    ensures only { (more : ℕ) (stmts : PlainStmts) (rest : List Word) → MayTake (SpellsStmts more stmts) (ahead reader.old) rest → Begins (IsSign (codes "}")) rest → IsReading ((more ≤ depth) × HaveFew stmts) seen_stmts stmts rest (ahead reader.new) result }
-    ensures deep { IfErr result (IfTooDeep (BoundPassed (StmtsBegun (ahead reader.new) depth) 0 (ahead reader.old) (ahead reader.new))) }
+    ensures ended { OnOk result (ClosesNext (ahead reader.new)) }
+    ensures only { AnswersStmts depth reader.old reader.new result }
+    ensures deep { DeepIn StmtsBegun depth reader.old reader.new result }
 {
     let mut stmts = Items::new(alloc);
     'stmts: while !reader.is_at_sign(b"}") {
@@ -47,10 +43,10 @@ pub fn statements(
 /// Reads a statement, which its first token determines.
 #[cycle(statements)]
 fn statement(alloc: Global, reader: &mut Reader<'_>, depth: u32) -> Result<Stmt, SyntaxError>
-    ensures taken { IfOk result (λ stmt. TakesToEnd (λ open_end. SpellsStmt depth open_end (seen_stmt stmt)) (ahead reader.old) (ahead reader.new)) }
+    ensures taken { TakesStmt depth reader.old reader.new result }
     ensures few { IfOk result (λ stmt. HasFew (seen_stmt stmt)) }
-    ensures only { (more : ℕ) (open_end : Bool) (stmt : PlainStmt) (rest : List Word) → MayTake (SpellsStmt more open_end stmt) (ahead reader.old) rest → EndsStmt open_end rest → IsReading ((more ≤ depth) × HasFew stmt) seen_stmt stmt rest (ahead reader.new) result }
-    ensures deep { IfErr result (IfTooDeep (BoundPassed (StmtBegun (ahead reader.new) depth) 0 (ahead reader.old) (ahead reader.new))) }
+    ensures only { AnswersStmt depth reader.old reader.new result }
+    ensures deep { DeepIn StmtBegun depth reader.old reader.new result }
 {
     if is_at_block(reader) {
         return block(alloc, reader, depth);
@@ -67,10 +63,10 @@ fn statement(alloc: Global, reader: &mut Reader<'_>, depth: u32) -> Result<Stmt,
 /// `{ STATEMENTS }`, perhaps with `@stage(STAGE)` before it.
 #[cycle(statements)]
 fn block(alloc: Global, reader: &mut Reader<'_>, depth: u32) -> Result<Stmt, SyntaxError>
-    ensures taken { IfOk result (λ stmt. Takes (SpellsStmt depth false (seen_stmt stmt)) (ahead reader.old) (ahead reader.new)) }
+    ensures taken { TakesClosed depth reader.old reader.new result }
     ensures few { IfOk result (λ stmt. HasFew (seen_stmt stmt)) }
-    ensures only { (more : ℕ) (open_end : Bool) (stmt : PlainStmt) (rest : List Word) → MayTake (SpellsStmt more open_end stmt) (ahead reader.old) rest → Begins (IsSign (codes "{")) (ahead reader.old) ⊎ Begins (IsSign (codes "@")) (ahead reader.old) → IsReading ((more ≤ depth) × HasFew stmt) seen_stmt stmt rest (ahead reader.new) result }
-    ensures deep { IfErr result (IfTooDeep (BoundPassed (StmtBegun (ahead reader.new) depth) 0 (ahead reader.old) (ahead reader.new))) }
+    ensures only { AnswersBlock BeginsBlock depth reader.old reader.new result }
+    ensures deep { DeepIn StmtBegun depth reader.old reader.new result }
 {
     let stage = stage(reader, depth)?;
     let body = in_braces(alloc, reader, depth)?;
@@ -80,10 +76,10 @@ fn block(alloc: Global, reader: &mut Reader<'_>, depth: u32) -> Result<Stmt, Syn
 /// `if (CONDITION) BRANCH` or `if (CONDITION) BRANCH else BRANCH`
 #[cycle(statements)]
 fn conditional(alloc: Global, reader: &mut Reader<'_>, depth: u32) -> Result<Stmt, SyntaxError>
-    ensures taken { IfOk result (λ stmt. TakesToEnd (λ open_end. SpellsStmt depth open_end (seen_stmt stmt)) (ahead reader.old) (ahead reader.new)) }
+    ensures taken { TakesStmt depth reader.old reader.new result }
     ensures few { IfOk result (λ stmt. HasFew (seen_stmt stmt)) }
-    ensures only { (more : ℕ) (open_end : Bool) (stmt : PlainStmt) (rest : List Word) → MayTake (SpellsStmt more open_end stmt) (ahead reader.old) rest → Begins (IsReserved (codes "if")) (ahead reader.old) → EndsStmt open_end rest → IsReading ((more ≤ depth) × HasFew stmt) seen_stmt stmt rest (ahead reader.new) result }
-    ensures deep { IfErr result (IfTooDeep (BoundPassed (StmtBegun (ahead reader.new) depth) 0 (ahead reader.old) (ahead reader.new))) }
+    ensures only { AnswersIf depth reader.old reader.new result }
+    ensures deep { DeepIn StmtBegun depth reader.old reader.new result }
 {
     let cond = condition(alloc, reader, depth)?;
     let yes = branch(alloc, reader, depth)?;
@@ -106,10 +102,10 @@ fn conditional(alloc: Global, reader: &mut Reader<'_>, depth: u32) -> Result<Stm
 /// `for (INDEX < SIZE) { STATEMENTS }`
 #[cycle(statements)]
 fn repeated(alloc: Global, reader: &mut Reader<'_>, depth: u32) -> Result<Stmt, SyntaxError>
-    ensures taken { IfOk result (λ stmt. Takes (SpellsStmt depth false (seen_stmt stmt)) (ahead reader.old) (ahead reader.new)) }
+    ensures taken { TakesClosed depth reader.old reader.new result }
     ensures few { IfOk result (λ stmt. HasFew (seen_stmt stmt)) }
-    ensures only { (more : ℕ) (open_end : Bool) (stmt : PlainStmt) (rest : List Word) → MayTake (SpellsStmt more open_end stmt) (ahead reader.old) rest → Begins (IsReserved (codes "for")) (ahead reader.old) → IsReading ((more ≤ depth) × HasFew stmt) seen_stmt stmt rest (ahead reader.new) result }
-    ensures deep { IfErr result (IfTooDeep (BoundPassed (StmtBegun (ahead reader.new) depth) 0 (ahead reader.old) (ahead reader.new))) }
+    ensures only { AnswersBlock BeginsFor depth reader.old reader.new result }
+    ensures deep { DeepIn StmtBegun depth reader.old reader.new result }
 {
     let (index, size) = turns(alloc, reader, depth)?;
     let body = in_braces(alloc, reader, depth)?;
@@ -119,10 +115,10 @@ fn repeated(alloc: Global, reader: &mut Reader<'_>, depth: u32) -> Result<Stmt, 
 /// A branch of an `if`: the statements of a block without a stage, or one other statement, which counts as one more bracket.
 #[cycle(statements)]
 fn branch(alloc: Global, reader: &mut Reader<'_>, depth: u32) -> Result<Items<Stmt>, SyntaxError>
-    ensures taken { IfOk result (λ stmts. TakesToEnd (λ open_end. SpellsBranch depth open_end (seen_stmts stmts)) (ahead reader.old) (ahead reader.new)) }
+    ensures taken { TakesBranch depth reader.old reader.new result }
     ensures few { IfOk result (λ stmts. HaveFew (seen_stmts stmts)) }
-    ensures only { (more : ℕ) (open_end : Bool) (stmts : PlainStmts) (rest : List Word) → MayTake (SpellsBranch more open_end stmts) (ahead reader.old) rest → EndsStmt open_end rest → IsReading ((more ≤ depth) × HaveFew stmts) seen_stmts stmts rest (ahead reader.new) result }
-    ensures deep { 0 < depth → IfErr result (IfTooDeep (BoundPassed (BranchBegun (ahead reader.new) depth) 0 (ahead reader.old) (ahead reader.new))) }
+    ensures only { AnswersBranch depth reader.old reader.new result }
+    ensures deep { 0 < depth → DeepIn BranchBegun depth reader.old reader.new result }
 {
     if reader.is_at_sign(b"{") {
         return in_braces(alloc, reader, depth);
@@ -139,10 +135,10 @@ fn branch(alloc: Global, reader: &mut Reader<'_>, depth: u32) -> Result<Items<St
 /// `{ STATEMENTS }`
 #[cycle(statements)]
 fn in_braces(alloc: Global, reader: &mut Reader<'_>, depth: u32) -> Result<Items<Stmt>, SyntaxError>
-    ensures taken { IfOk result (λ stmts. Takes (Bracketed (codes "{") (codes "}") depth (λ inner. SpellsStmts inner (seen_stmts stmts))) (ahead reader.old) (ahead reader.new)) }
+    ensures taken { TakesBlock depth reader.old reader.new result }
     ensures few { IfOk result (λ stmts. HaveFew (seen_stmts stmts)) }
-    ensures only { (more : ℕ) (stmts : PlainStmts) (rest : List Word) → MayTake (Bracketed (codes "{") (codes "}") more (λ inner. SpellsStmts inner stmts)) (ahead reader.old) rest → IsReading ((more ≤ depth) × HaveFew stmts) seen_stmts stmts rest (ahead reader.new) result }
-    ensures deep { IfErr result (IfTooDeep (BoundPassed (BlockBegun (ahead reader.new) depth) 0 (ahead reader.old) (ahead reader.new))) }
+    ensures only { AnswersBraces depth reader.old reader.new result }
+    ensures deep { DeepIn BlockBegun depth reader.old reader.new result }
 {
     let inner = reader.open(b"{", depth)?;
     let stmts = statements(alloc, reader, inner)?;
@@ -152,50 +148,47 @@ fn in_braces(alloc: Global, reader: &mut Reader<'_>, depth: u32) -> Result<Items
 
 /// Whether a block stands next, perhaps with its stage before it.
 fn is_at_block(reader: &Reader<'_>) -> bool
-    ensures { IsTrue result ↔ Begins (IsSign (codes "{")) (ahead reader.now) ⊎ Begins (IsSign (codes "@")) (ahead reader.now) }
+    ensures { IsTrue result ↔ BeginsBlock (ahead reader.now) }
 {
     reader.is_at_sign(b"{") || reader.is_at_sign(b"@")
 }
 
 /// `@stage(STAGE)`, where it is there.
 fn stage(reader: &mut Reader<'_>, depth: u32) -> Result<Option<u8>, SyntaxError>
-    ensures taken { IfOk result (λ stage. MayTake (SpellsStage depth stage) (ahead reader.old) (ahead reader.new)) }
-    ensures only { (more : ℕ) (stage : Option ℕ) (rest : List Word) → MayTake (SpellsStage more stage) (ahead reader.old) rest → Begins (IsSign (codes "{")) rest → IsReading (more ≤ depth) (λ read. read) stage rest (ahead reader.new) result }
-    ensures deep { IfErr result (IfTooDeep (Stops (Line depth) OpensNext (ahead reader.old) (ahead reader.new))) }
+    ensures { ReadsLineUpTo OpensNextBlock SpellsStage itself depth reader.old reader.new result }
 {
     if !reader.eat_sign(b"@") {
         return Ok(None);
     }
     reader.fixed_name(b"stage")?;
     let _inner = reader.open(b"(", depth)?;
-    let stage = reader.number(255)?;
+    let stage = reader.number(u128::from(u8::MAX))?;
     reader.sign(b")")?;
     Ok(Some(stage as u8))
 }
 
 /// `if (CONDITION)`
 fn condition(alloc: Global, reader: &mut Reader<'_>, depth: u32) -> Result<Expr, SyntaxError>
-    ensures taken { IfOk result (λ e. Takes (SpellsCondition depth (seen_expr e)) (ahead reader.old) (ahead reader.new)) }
-    ensures few { IfOk result (λ e. HasFewOperators (seen_expr e)) }
-    ensures only { (more : ℕ) (e : PlainExpr) (rest : List Word) → MayTake (SpellsCondition more e) (ahead reader.old) rest → IsReading ((more ≤ depth) × HasFewOperators e) seen_expr e rest (ahead reader.new) result }
-    ensures deep { IfErr result (IfTooDeep (BoundPassed (Line depth) 0 (ahead reader.old) (ahead reader.new))) }
+    ensures { ReadsExpr SpellsCondition depth reader.old reader.new result }
 {
     reader.reserved(b"if")?;
-    let cond = bracketed(alloc, reader, depth)?;
-    Ok(cond)
+    bracketed(alloc, reader, depth)
 }
 
 /// `for (INDEX < SIZE)`
 fn turns(alloc: Global, reader: &mut Reader<'_>, depth: u32) -> Result<(Name, Name), SyntaxError>
-    ensures taken { IfOk result (λ turns. Takes (SpellsTurns depth turns.0 turns.1) (ahead reader.old) (ahead reader.new)) }
-    ensures only { (more : ℕ) (index size : List ℕ) (rest : List Word) → MayTake (SpellsTurns more index size) (ahead reader.old) rest → IsReading {B = List ℕ × List ℕ} (more ≤ depth) (λ read. read) (index, size) rest (ahead reader.new) result }
-    ensures deep { IfErr result (IfTooDeep (Stops (Line depth) OpensNext (ahead reader.old) (ahead reader.new))) }
+    ensures { ReadsLine SpellsFor itself depth reader.old reader.new result }
 {
     reader.reserved(b"for")?;
-    let _inner = reader.open(b"(", depth)?;
+    in_brackets(reader, b"(", b")", depth, |reader, _| turn(alloc, reader))
+}
+
+/// `INDEX < SIZE`
+fn turn(alloc: Global, reader: &mut Reader<'_>) -> Result<(Name, Name), SyntaxError>
+    ensures { Reads SpellsTurn itself reader.old reader.new result }
+{
     let index = reader.name(alloc)?;
     reader.sign(b"<")?;
     let size = reader.name(alloc)?;
-    reader.sign(b")")?;
     Ok((index, size))
 }

@@ -6,12 +6,13 @@ use Rattle.elastic_ast.specs.declared.statements.Lval.{Lval}
 use Rattle.elastic_ast.specs.declared.statements.Lval.TheVariants as lval
 use Rattle.spelling.specs.Words.{Word}
 use Rattle.spelling.specs.Grammar.{Grammar, ◌⨟◌, Begins, IsNamed, IsSign, Named, Sign, is_sign}
-use Rattle.spelling.specs.Reading.{MayTake}
+use Rattle.spelling.specs.Reading.{Ends, MayTake}
 use Rattle.spelling.proofs.Only.{begins, begins_bracketed, begins_first, ends_sign, not_sign, other_text, split, which}
 use Rattle.p4_expr.specs.GoesOn.{EndsIndex}
 use Rattle.p4_expr.specs.Parts.{SpellsLval}
-use Rattle.p4_tables.specs.Tables.{SpellsEntry, SpellsKey, SpellsMatch}
-use Rattle.p4_tables.proofs.SetSpelling.{SetList, one_set_there, set_no_sign}
+use Rattle.p4_tables.specs.GoesOn.{set_signs}
+use Rattle.p4_tables.specs.Tables.{SpellsActionName, SpellsEntry, SpellsKey, SpellsMatch, SpellsSetList}
+use Rattle.p4_tables.proofs.SetSpelling.{one_set_there, set_no_sign}
 
 -- how a key matches
 pub match_true : (ternary : Bool) {a c : List Word} → MayTake (SpellsMatch ternary) a c → Begins (IsNamed (codes "ternary")) a → (true ≡ ternary) × MayTake (Named (codes "ternary")) a c
@@ -25,6 +26,9 @@ match_false false m none = (refl, m)
 -- a place ends where a colon follows
 pub colon_ends : {Q : Grammar} {a c : List Word} → MayTake (Sign (codes ":") ⨟ Q) a c → EndsIndex a
 colon_ends {a = a} m = λ at. absurd ((ends_sign (codes "[" ∷ []) (codes ":") a refl (begins_first m)).0 at)
+
+pub colon_ends_set : {Q : Grammar} {a c : List Word} → MayTake (Sign (codes ":") ⨟ Q) a c → Ends set_signs a
+colon_ends_set {a = a} m = ends_sign set_signs (codes ":") a refl (begins_first m)
 
 pub same_key : (f g : Key) → f.field ≡ g.field → f.ternary ≡ g.ternary → f ≡ g
 same_key f g field ternary =
@@ -49,18 +53,14 @@ pub entry_no_end : (depth : ℕ) (entry : PlainEntry) {Q : Grammar} {a c : List 
 entry_no_end depth entry {a = a} m at =
     elim (which (split (split m).first).first) [
       | inl o ↦ set_no_sign (one_set_there entry.keys o).set (codes "}") (one_set_there entry.keys o).ahead at
-      | inr b ↦ (ends_sign (codes "(" ∷ []) (codes "}") a refl at).0 (begins_bracketed (codes "(") (codes ")") depth (SetList entry.keys) b)
+      | inr b ↦ (ends_sign (codes "(" ∷ []) (codes "}") a refl at).0 (begins_bracketed (codes "(") (codes ")") depth (λ _. SpellsSetList entry.keys) b)
     ]
 
-pub same_entry : (f g : PlainEntry) → f.keys ≡ g.keys → f.action ≡ g.action → f.args ≡ g.args → f ≡ g
-same_entry f g keys action args =
-    let made : List PlainKeyset → List ℕ → List PlainExpr → PlainEntry = λ k n e. record { keys = k; action = n; args = e } in
-    let same : made f.keys f.action f.args ≡ made g.keys g.action g.args = ap (λ k. made k f.action f.args) keys ∙ ap (λ n. made g.keys n f.args) action ∙ ap (λ e. made g.keys g.action e) args in
-    same
+abbrev pub an_entry : List PlainKeyset → List ℕ × List PlainExpr → PlainEntry
+an_entry keys call = record { keys = keys; action = call.0; args = call.1 }
 
--- a name of the list of actions
-abbrev pub NameLine : List ℕ → Grammar
-NameLine name = Named name ⨟ Sign (codes ";")
+pub same_entry : {keys others : List PlainKeyset} {call other : List ℕ × List PlainExpr} → keys ≡ others → call ≡ other → an_entry keys call ≡ an_entry others other
+same_entry {others = others} {call = call} keys same = ap (λ k. an_entry k call) keys ∙ ap (an_entry others) same
 
-pub name_no_sign : (name : List ℕ) {Q : Grammar} {a c : List Word} (sign : List ℕ) → MayTake (NameLine name ⨟ Q) a c → Begins (IsSign sign) a → ⊥
+pub name_no_sign : (name : List ℕ) {Q : Grammar} {a c : List Word} (sign : List ℕ) → MayTake (SpellsActionName name ⨟ Q) a c → Begins (IsSign sign) a → ⊥
 name_no_sign name sign m at = named_no_sign name sign (split m).first at

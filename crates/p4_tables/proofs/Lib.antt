@@ -1,5 +1,6 @@
-mod EntrySpelling
+pub mod EntrySpelling
 mod PropertySpelling
-mod SetSpelling
+pub mod SetSpelling
 mod TableSpelling
 pub mod TablesWithin
+pub mod WordsUpTo

@@ -1,13 +1,21 @@
 -- The first words of a property say of which kind it is.
-use Rattle.std.proofs.Common.{◌≡◌, ℕ, List, bytes_eq, codes, cond, drop, false, ◌⊎◌, inl, inr, refl, sym, ap, ◌∙◌, arith}
-use Rattle.elastic_ast.specs.Tree.{PlainExpr}
+use Rattle.spelling.specs.Bounds.{IfTooDeep, Opens, OpensNext, Stops}
+use Rattle.std.specs.Result.{IsErrAnd}
+use Rattle.p4_tables.specs.Seen.{seen_parts}
+use Rattle.p4_tables.specs.Reading.{ReadsOfKind, ReadsOther}
+use Rattle.std.proofs.Common.{◌≡◌, ℕ, List, bytes_eq, codes, cond, drop, false, ◌⊎◌, inl, inr, refl, sym, ap, ◌∙◌, All, Err, Ok, Result, subst, ◌≢◌, ◌≤◌}
 use Rattle.spelling.specs.Words.{Word}
+use Rattle.spelling.specs.declared.error.SyntaxError.{SyntaxError}
+use Rattle.spelling.specs.declared.reader.Reader.{Reader}
+use Rattle.p4_tables.specs.declared.properties.Part.{Part}
 use Rattle.spelling.specs.Grammar.{Begins, IsNamed, IsReserved}
-use Rattle.spelling.specs.Reading.{MayTake}
+use Rattle.spelling.specs.Reading.{MayTake, WantsOr, ahead}
 use Rattle.spelling.proofs.Only.{begins_both, begins_first, of_where, other_text, split, which}
 use Rattle.spelling.proofs.Peeling.{begins_second, past_none}
 use Rattle.spelling.proofs.Taking.{may_both}
-use Rattle.p4_tables.specs.Tables.{Property, SpellsProperty, kind_of}
+use Rattle.p4_tables.specs.Tables.{Property, Says, SpellsProperty, kind_of, property_of}
+use Rattle.p4_tables.specs.declared.properties.Kind.{Kind}
+use Rattle.p4_tables.specs.declared.properties.Kind.TheVariants as kind
 
 -- the words with which a property begins
 abbrev pub FirstWords : Property → List Word → Type 0
@@ -26,9 +34,9 @@ first_words depth (Property.Fallback action arguments) {a = a} m =
 first_words depth (Property.Size size) m = begins_first (of_where m)
 first_words depth (Property.Entries entries) {a = a} m = (begins_first m, begins_second a m)
 
--- the number of the kind that has this name
-abbrev pub kind_by : List ℕ → ℕ
-kind_by text = cond (bytes_eq text (codes "key")) 0 (cond (bytes_eq text (codes "actions")) 1 (cond (bytes_eq text (codes "default_action")) 2 (cond (bytes_eq text (codes "size")) 3 4)))
+-- the kind that has this name
+abbrev pub kind_by : List ℕ → Kind
+kind_by text = cond (bytes_eq text (codes "key")) kind.Keys (cond (bytes_eq text (codes "actions")) kind.Actions (cond (bytes_eq text (codes "default_action")) kind.Fallback (cond (bytes_eq text (codes "size")) kind.Size kind.Entries)))
 
 same_names : (s t : List ℕ) (ws : List Word) → Begins (IsNamed s) ws → Begins (IsNamed t) ws → s ≡ t
 same_names s t ws f g = let b = begins_both ws f g in sym b.1.1 ∙ b.2.1
@@ -63,17 +71,33 @@ none_begins (Property.Fallback action arguments) ws (inr first) key actions defa
 none_begins (Property.Size bound) ws first key actions default size const = size first
 none_begins (Property.Entries entries) ws first key actions default size const = const first.0 (inr first.1)
 
--- a property of a kind
-pub of_fallback : (P : Property → Type 0) (property : Property) → kind_of property ≡ 2 → ((action : List ℕ) (arguments : List PlainExpr) → P (Property.Fallback action arguments)) → P property
-of_fallback P (Property.Keys keys) e f = absurd (omega (arith, e))
-of_fallback P (Property.Actions names) e f = absurd (omega (arith, e))
-of_fallback P (Property.Fallback action arguments) e f = f action arguments
-of_fallback P (Property.Size size) e f = absurd (omega (arith, e))
-of_fallback P (Property.Entries entries) e f = absurd (omega (arith, e))
+-- what a property of its kind says
+pub said : (property : Property) → (says : Says (kind_of property)) × (property ≡ property_of (kind_of property) says)
+said (Property.Keys keys) = (keys, refl)
+said (Property.Actions names) = (names, refl)
+said (Property.Fallback action arguments) = ((action, arguments), refl)
+said (Property.Size size) = (size, refl)
+said (Property.Entries entries) = (entries, refl)
 
-pub of_size : (P : Property → Type 0) (property : Property) → kind_of property ≡ 3 → ((size : ℕ) → P (Property.Size size)) → P property
-of_size P (Property.Keys keys) e f = absurd (omega (arith, e))
-of_size P (Property.Actions names) e f = absurd (omega (arith, e))
-of_size P (Property.Fallback action arguments) e f = absurd (omega (arith, e))
-of_size P (Property.Size size) e f = f size
-of_size P (Property.Entries entries) e f = absurd (omega (arith, e))
+pub refused_of_kind : {kind : Kind} {depth : ℕ} {before after : Reader} {result : Result Part SyntaxError} (e : SyntaxError) → IsErrAnd result (λ d. d ≡ e) → ((more : ℕ) (says : Says kind) (rest : List Word) → MayTake (SpellsProperty more (property_of kind says)) (ahead before) rest → WantsOr (more ≤ depth) e) → IfTooDeep (Stops (Opens depth) OpensNext (ahead before) (ahead after)) e → ReadsOfKind kind depth before after result
+refused_of_kind {result = Ok part} e is want deep = absurd is
+refused_of_kind {depth = depth} {before = before} {after = end} {result = Err d} e is want deep =
+    record {
+      taken = tt;
+      is_of_it = tt;
+      only = λ more says rest m. subst (WantsOr (more ≤ depth)) (sym is) (want more says rest m);
+      deep = subst (IfTooDeep (Stops (Opens depth) OpensNext (ahead before) (ahead end))) (sym is) deep;
+    }
+
+pub said_as : {kind : Kind} (property : Property) → kind_of property ≡ kind → (says : Says kind) × (property ≡ property_of kind says)
+said_as property is = subst (λ kind. (says : Says kind) × (property ≡ property_of kind says)) is (said property)
+
+pub refused_other : {parts : List Part} {depth : ℕ} {before after : Reader} {result : Result Part SyntaxError} (e : SyntaxError) → IsErrAnd result (λ d. d ≡ e) → ((more : ℕ) (property : Property) (rest : List Word) → MayTake (SpellsProperty more property) (ahead before) rest → All (λ one. kind_of one ≢ kind_of property) (seen_parts parts) → WantsOr (more ≤ depth) e) → IfTooDeep (Stops (Opens depth) OpensNext (ahead before) (ahead after)) e → ReadsOther parts depth before after result
+refused_other {result = Ok part} e is want deep = absurd is
+refused_other {depth = depth} {before = before} {after = end} {result = Err d} e is want deep =
+    record {
+      taken = tt;
+      other = tt;
+      only = λ more property rest m others. subst (WantsOr (more ≤ depth)) (sym is) (want more property rest m others);
+      deep = subst (IfTooDeep (Stops (Opens depth) OpensNext (ahead before) (ahead end))) (sym is) deep;
+    }

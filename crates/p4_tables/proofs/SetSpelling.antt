@@ -5,12 +5,12 @@ use Rattle.p4_lexer.specs.declared.token.Kind.{Kind}
 use Rattle.p4_lexer.specs.declared.token.Kind.TheVariants as kind
 use Rattle.elastic_ast.specs.Tree.{PlainExpr, PlainKeyset}
 use Rattle.spelling.specs.Words.{Word}
-use Rattle.spelling.specs.Grammar.{Grammar, Empty, ◌⨟◌, Begins, Bracketed, Commas, Each, IsReserved, IsSign, Named, Reserved, Separated, Sign, is_number, is_reserved, is_sign}
+use Rattle.spelling.specs.Grammar.{Grammar, Empty, ◌⨟◌, Begins, Bracketed, Commas, IsReserved, IsSign, Named, Reserved, Sign, is_number, is_reserved, is_sign}
 use Rattle.spelling.specs.Reading.{Ends, MayTake}
-use Rattle.spelling.proofs.Only.{alone, begins, begins_both, begins_bracketed, begins_first, empty_same, ends_sign, not_sign, of_where, regroup, reserved_no_sign, split, which}
+use Rattle.spelling.proofs.Only.{alone, begins, begins_both, begins_bracketed, begins_first, empty_same, not_sign, of_where, reserved_no_sign, split, which}
 use Rattle.p4_expr.specs.Parts.{IsNumber, SpellsNumber}
-use Rattle.p4_tables.specs.GoesOn.{set_list_signs, set_signs}
-use Rattle.p4_tables.specs.Tables.{SpellsOneSet, SpellsSet, SpellsSets, SpellsValue}
+use Rattle.p4_tables.specs.GoesOn.{set_signs}
+use Rattle.p4_tables.specs.Tables.{SpellsOneSet, SpellsSet, SpellsSetList, SpellsSets, SpellsValue}
 
 -- a value that is a name, and one that is a number
 pub record NamedValue (value : PlainExpr) (a c : List Word) : Type 0 where
@@ -68,7 +68,7 @@ reserved_no_number text kind.Name h g = false≢true h
 reserved_no_number text (kind.Number width value) h g = false≢true h
 reserved_no_number text (kind.Include file) h g = false≢true h
 
-value_no_reserved : (value : PlainExpr) {a c : List Word} (text : List ℕ) → MayTake (SpellsValue value) a c → Begins (IsReserved text) a → ⊥
+pub value_no_reserved : (value : PlainExpr) {a c : List Word} (text : List ℕ) → MayTake (SpellsValue value) a c → Begins (IsReserved text) a → ⊥
 value_no_reserved (PlainExpr.Num width number) {a = a} text m at = let b = begins_both a (begins_number width number m) at in reserved_no_number text b.0.kind b.2.0 b.1
 value_no_reserved (PlainExpr.Named name) {a = a} text m at = let b = begins_both a (begins m) at in false≢true (sym (ap is_reserved b.1.0) ∙ b.2.0)
 value_no_reserved (PlainExpr.Truth truth) text m at = absurd m.spelled
@@ -120,16 +120,6 @@ pub mask_there : (mask : Option PlainExpr) {a c : List Word} → MayTake (Spells
 mask_there None m ends at = absurd (ends.0 (subst (Begins (IsSign (codes "&&&"))) (empty_same m) at))
 mask_there (Some mask) m ends at = record { of = mask; is = refl; ahead = m }
 
--- a set after the first of a list
-abbrev pub LaterSet : PlainKeyset → Grammar
-LaterSet set = Sign (codes ",") ⨟ SpellsSet set
-
-pub sets_follow : (later : List PlainKeyset) {a c : List Word} → MayTake (Each LaterSet later) a c → Ends set_list_signs c → Ends set_signs a
-sets_follow [] {a = a} {c = c} m ends =
-    let set_ends : Ends set_signs c = (ends.0, tt) in
-    subst (Ends set_signs) (sym (empty_same m)) set_ends
-sets_follow (set ∷ later) {a = a} m ends = ends_sign set_signs (codes ",") a refl (begins_first (regroup m))
-
 -- a list of one set
 pub record OneSet (sets : List PlainKeyset) (a c : List Word) : Type 0 where
   pub set : PlainKeyset
@@ -159,32 +149,17 @@ set_no_sign (PlainKeyset.One value) sign m at = value_no_sign value sign m at
 set_no_sign (PlainKeyset.Masked value mask) sign m at = value_no_sign value sign (split m).first at
 set_no_sign PlainKeyset.Any {a = a} sign m at = not_sign sign a (λ word h. reserved_no_sign word.kind h.0) (begins m) at
 
--- a value after the first of a list
-abbrev pub LaterValue : PlainExpr → Grammar
-LaterValue value = Sign (codes ",") ⨟ SpellsValue value
-
--- values with commas between them, where one is there
-pub commas_of : (values : List PlainExpr) {a c : List Word} → MayTake (Separated (Sign (codes ",")) SpellsValue values) a c → MayTake (Commas SpellsValue values) a c
-commas_of [] m = absurd m.spelled
-commas_of (value ∷ values) m = m
-
-pub of_commas : (values : List PlainExpr) {a c : List Word} → MayTake (Commas SpellsValue values) a c → Begins (IsSign (codes ")")) c → (Begins (IsSign (codes ")")) a → ⊥) → MayTake (Separated (Sign (codes ",")) SpellsValue values) a c
-of_commas [] m at none = absurd (none (subst (Begins (IsSign (codes ")"))) (sym (empty_same m)) at))
-of_commas (value ∷ values) m at none = m
-
+-- where the bracket closes, no value is left
 pub no_values : (values : List PlainExpr) {a c : List Word} → MayTake (Commas SpellsValue values) a c → Begins (IsSign (codes ")")) a → ([] ≡ values) × (a ≡ c)
 no_values [] m at = (refl, empty_same m)
 no_values (value ∷ values) m at = absurd (value_no_sign value (codes ")") (split m).first at)
 
 -- sets in brackets, where a bracket stands there; else one set
-abbrev pub SetList : List PlainKeyset → ℕ → Grammar
-SetList sets _ = Separated (Sign (codes ",")) SpellsSet sets
-
 one_no_sign : (sets : List PlainKeyset) {a c : List Word} (sign : List ℕ) → MayTake (SpellsOneSet sets) a c → Begins (IsSign sign) a → ⊥
 one_no_sign sets {a = a} sign m at = set_no_sign (one_set_there sets m).set sign (one_set_there sets m).ahead at
 
-pub brackets_there : (depth : ℕ) (sets : List PlainKeyset) {a c : List Word} → MayTake (SpellsSets depth sets) a c → Begins (IsSign (codes "(")) a → MayTake (Bracketed (codes "(") (codes ")") depth (SetList sets)) a c
+pub brackets_there : (depth : ℕ) (sets : List PlainKeyset) {a c : List Word} → MayTake (SpellsSets depth sets) a c → Begins (IsSign (codes "(")) a → MayTake (Bracketed (codes "(") (codes ")") depth (λ _. SpellsSetList sets)) a c
 brackets_there depth sets m at = elim (which m) [ inl o ↦ absurd (one_no_sign sets (codes "(") o at) | inr b ↦ b ]
 
 pub one_there : (depth : ℕ) (sets : List PlainKeyset) {a c : List Word} → MayTake (SpellsSets depth sets) a c → (Begins (IsSign (codes "(")) a → ⊥) → MayTake (SpellsOneSet sets) a c
-one_there depth sets m none = elim (which m) [ inl o ↦ o | inr b ↦ absurd (none (begins_bracketed (codes "(") (codes ")") depth (SetList sets) b)) ]
+one_there depth sets m none = elim (which m) [ inl o ↦ o | inr b ↦ absurd (none (begins_bracketed (codes "(") (codes ")") depth (λ _. SpellsSetList sets) b)) ]

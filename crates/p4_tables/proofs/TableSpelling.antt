@@ -1,14 +1,17 @@
 -- The properties of a table: how a table is made of them, and that none is of the kind of another.
-use Rattle.std.proofs.Common.{◌≡◌, ◌≢◌, ℕ, ◌+◌, ◌<◌, All, AllPairs, List, [], ◌∷◌, ◌++◌, codes, inl, inr, length, map, refl, sym, ap, subst, ◌∙◌, add-one, arith, length-append}
+use Rattle.std.proofs.Common.{zero, suc, ◌≡◌, ◌≢◌, ℕ, ◌+◌, ◌<◌, All, List, [], ◌∷◌, ◌++◌, codes, inl, inr, length, map, refl, sym, ap, subst, ◌∙◌, add-one, arith, length-append}
 use Rattle.std.proofs.Math.Seq.{get_or-append_seam}
 use Rattle.std.proofs.lemmas.List.{get_or_append_left}
 use Rattle.elastic_ast.specs.Tree.{PlainTable}
 use Rattle.spelling.specs.Words.{Word}
-use Rattle.spelling.specs.Grammar.{Grammar, ◌⨟◌, Begins, Bracketed, Each, IsNamed, IsReserved, IsSign, Named, Reserved, is_sign}
+use Rattle.spelling.specs.Grammar.{Grammar, ◌⨟◌, Begins, IsNamed, IsReserved, IsSign, Named, Reserved, is_sign, Sign, Where}
 use Rattle.spelling.specs.Reading.{MayTake, Takes}
 use Rattle.spelling.proofs.Only.{not_sign, reserved_no_sign, split}
+use Rattle.spelling.proofs.Deeper.{Under, itself, under_both}
+use Rattle.spelling.specs.Readers.{InCurly, Many}
 use Rattle.spelling.proofs.Taking.{takes_as}
 use Rattle.p4_tables.specs.declared.properties.Part.{Part}
+use Rattle.p4_tables.specs.Reading.{Apart, SpellsProperties}
 use Rattle.p4_tables.specs.Seen.{seen_part}
 use Rattle.p4_tables.specs.Tables.{Property, SpellsProperty, SpellsTable, kind_of, table_with}
 use Rattle.p4_tables.proofs.PropertySpelling.{FirstWords, first_words}
@@ -19,10 +22,6 @@ pub record Built (name : List ℕ) (parts left : List Part) (table : PlainTable)
   pub whole : parts ≡ left ++ done
   pub is : table ≡ table_with name (map seen_part done)
 
--- no two properties are of one kind
-abbrev pub Apart : List Property → Type 0
-Apart properties = AllPairs (λ one other. kind_of one ≢ kind_of other) properties
-
 pub apart_before : (read : List Property) (one : Property) (later all : List Property) → all ≡ read ++ one ∷ later → Apart all → All (λ other. kind_of other ≢ kind_of one) read
 apart_before read one later all whole apart = λ k d within.
     let Both : List Property → Type 0 = Apart in
@@ -31,9 +30,21 @@ apart_before read one later all whole apart = λ k d within.
     let here : length read < length (read ++ one ∷ later) = omega (arith, long, add-one (length later)) in
     λ same. h k (length read) d within here (ap kind_of (get_or_append_left read (one ∷ later) d k within) ∙ same ∙ ap kind_of (sym (get_or-append_seam read one later d)))
 
--- the words of a table
+-- the words of a table, which say that no two properties are of one kind
 abbrev pub TableWords : List ℕ → List Property → ℕ → Grammar
-TableWords name properties depth = Reserved (codes "table") ⨟ Named name ⨟ Bracketed (codes "{") (codes "}") depth (λ inner. Each (SpellsProperty inner) properties)
+TableWords name properties depth = Reserved (codes "table") ⨟ Named name ⨟ InCurly SpellsProperties depth properties
+
+in_curly : (depth : ℕ) (properties : List Property) → Apart properties → Under (InCurly (Many SpellsProperty) depth properties) (InCurly SpellsProperties depth properties)
+in_curly zero properties apart ws h = absurd h
+in_curly (suc depth) properties apart ws h = under_both (itself (Sign (codes "{"))) (under_both (λ ws g. (apart, g)) (itself (Sign (codes "}")))) ws h
+
+out_of_curly : (depth : ℕ) (properties : List Property) → Under (InCurly SpellsProperties depth properties) (InCurly (Many SpellsProperty) depth properties)
+out_of_curly zero properties ws h = absurd h
+out_of_curly (suc depth) properties ws h = under_both (itself (Sign (codes "{"))) (under_both (λ ws g. g.1) (itself (Sign (codes "}")))) ws h
+
+apart_in : (depth : ℕ) (properties : List Property) (ws : List Word) → InCurly SpellsProperties depth properties ws → Apart properties
+apart_in zero properties ws h = absurd h
+apart_in (suc depth) properties ws h = h.second.first.0
 
 pub with_name : (name : List ℕ) (properties : List Property) → (table_with name properties).name ≡ name
 with_name name [] = refl
@@ -43,13 +54,23 @@ with_name name (Property.Fallback action arguments ∷ properties) = with_name n
 with_name name (Property.Size size ∷ properties) = with_name name properties
 with_name name (Property.Entries entries ∷ properties) = with_name name properties
 
-pub takes_table : (depth : ℕ) (name : List ℕ) (properties : List Property) (table : PlainTable) {a c : List Word} → table ≡ table_with name properties → Apart properties → Takes (TableWords name properties depth) a c → Takes (SpellsTable depth table) a c
-takes_table depth name properties table is apart t =
+pub no_pairs : Apart []
+no_pairs = λ i j d less inside. absurd (omega (arith, inside))
+
+pub may_where : {fact : Type 0} {Of : Grammar} {a b : List Word} → fact → MayTake Of a b → MayTake (Where fact Of) a b
+may_where holds m = record { front = m.front; joined = m.joined; spelled = (holds, m.spelled) }
+
+pub takes_table : (depth : ℕ) (name : List ℕ) (properties : List Property) (table : PlainTable) {a c : List Word} → table ≡ table_with name properties → Takes (TableWords name properties depth) a c → Takes (SpellsTable depth table) a c
+takes_table depth name properties table is t =
     let named : name ≡ table.name = sym (ap (λ table. table.name) is ∙ with_name name properties) in
-    takes_as (λ ws s. record { properties = properties; spelled = subst (λ name. TableWords name properties depth ws) named s; no_two = apart; has_them = is ∙ ap (λ name. table_with name properties) named }) t
+    takes_as
+    (λ ws s.
+    let plain = under_both (itself (Reserved (codes "table"))) (under_both (itself (Named name)) (out_of_curly depth properties)) ws s in
+    let again : (name : List ℕ) → List Word → Type 0 = λ name. Reserved (codes "table") ⨟ Named name ⨟ InCurly (Many SpellsProperty) depth properties in
+    record { properties = properties; spelled = subst (λ name. again name ws) named plain; no_two = apart_in depth properties s.second.back s.second.second; has_them = is ∙ ap (λ name. table_with name properties) named }) t
 
 pub table_words : (depth : ℕ) (table : PlainTable) {a c : List Word} (m : MayTake (SpellsTable depth table) a c) → MayTake (TableWords table.name m.spelled.properties depth) a c
-table_words depth table m = record { front = m.front; joined = m.joined; spelled = m.spelled.spelled }
+table_words depth table m = record { front = m.front; joined = m.joined; spelled = under_both (itself (Reserved (codes "table"))) (under_both (itself (Named table.name)) (in_curly depth m.spelled.properties m.spelled.no_two)) m.front m.spelled.spelled }
 
 -- a property does not begin with a closing bracket
 named_no_end : (name : List ℕ) (ws : List Word) → Begins (IsNamed name) ws → Begins (IsSign (codes "}")) ws → ⊥

@@ -1,3 +1,4 @@
 pub mod Tables
 pub mod GoesOn
+pub mod Reading
 pub mod Seen

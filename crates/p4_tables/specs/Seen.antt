@@ -1,9 +1,11 @@
--- The plain property that a property of a table shows, and the number of its kind; this project's own.
-use Rattle.std.specs.Prelude.{ℕ, map}
-use Rattle.elastic_ast.specs.Seen.{seen_entry, seen_exprs}
+-- The plain property that a property of a table shows, this project's own.
+use Rattle.std.specs.Prelude.{ℕ, List, map}
+use Rattle.elastic_ast.specs.declared.declarations.Entry.{Entry}
+use Rattle.elastic_ast.specs.declared.declarations.Keyset.{Keyset}
+use Rattle.elastic_ast.specs.declared.statements.Expr.{Expr}
+use Rattle.elastic_ast.specs.Tree.{Name, PlainEntry, PlainExpr, PlainKeyset}
+use Rattle.elastic_ast.specs.Seen.{seen_entry, seen_exprs, seen_keyset}
 use Rattle.p4_tables.specs.Tables.{Property}
-use Rattle.p4_tables.specs.declared.properties.Kind.{Kind}
-use Rattle.p4_tables.specs.declared.properties.Kind.TheVariants as kind
 use Rattle.p4_tables.specs.declared.properties.Part.{Part}
 use Rattle.p4_tables.specs.declared.properties.Part.TheVariants as part
 
@@ -14,10 +16,15 @@ seen_part (part.Fallback action args) = Property.Fallback action (seen_exprs arg
 seen_part (part.Size size) = Property.Size size
 seen_part (part.Entries entries) = Property.Entries (map seen_entry entries)
 
--- the number that kinds of properties have in the grammar
-abbrev pub number_of : Kind → ℕ
-number_of kind.Keys = 0
-number_of kind.Actions = 1
-number_of kind.Fallback = 2
-number_of kind.Size = 3
-number_of kind.Entries = 4
+abbrev pub seen_parts : List Part → List Property
+seen_parts = map seen_part
+
+abbrev pub seen_entries : List Entry → List PlainEntry
+seen_entries = map seen_entry
+
+abbrev pub seen_sets : List Keyset → List PlainKeyset
+seen_sets = map seen_keyset
+
+-- a call of an action, with its arguments on the plain tree
+abbrev pub seen_call : List ℕ × List Expr → Name × List PlainExpr
+seen_call call = (call.0, seen_exprs call.1)

@@ -5,7 +5,10 @@ use Rattle.elastic_ast.specs.declared.declarations.Key.{Key}
 use Rattle.elastic_ast.specs.Tree.{Name, PlainExpr, PlainKeyset, PlainEntry, PlainTable}
 use Rattle.spelling.specs.Words.{Word}
 use Rattle.spelling.specs.Grammar.{Grammar, Empty, Nothing, ◌⨟◌, Either, Where, Each, Separated, Commas, Sign, Reserved, Named, Num, Bracketed}
+use Rattle.spelling.specs.Readers.{InCurly, InRound, Many}
 use Rattle.p4_expr.specs.Parts.{SpellsNumber, SpellsLval}
+use Rattle.p4_tables.specs.declared.properties.Kind.{Kind}
+use Rattle.p4_tables.specs.declared.properties.Kind.TheVariants as kind
 
 -- value := V | N, and no other expression is a value
 abbrev pub SpellsValue : PlainExpr → Grammar
@@ -32,17 +35,32 @@ SpellsOneSet [] = Nothing
 SpellsOneSet (set ∷ []) = SpellsSet set
 SpellsOneSet (set ∷ other ∷ sets) = Nothing
 
+-- set (',' set)*
+abbrev pub SpellsSetList : List PlainKeyset → Grammar
+SpellsSetList sets = Separated (Sign (codes ",")) SpellsSet sets
+
 -- set | '(' set (',' set)* ')'
 abbrev pub SpellsSets : ℕ → List PlainKeyset → Grammar
-SpellsSets depth sets = Either (SpellsOneSet sets) (Bracketed (codes "(") (codes ")") depth (λ _. Separated (Sign (codes ",")) SpellsSet sets))
+SpellsSets depth sets = Either (SpellsOneSet sets) (InRound (λ _. SpellsSetList) depth sets)
+
+-- value,*
+abbrev pub SpellsValueList : List PlainExpr → Grammar
+SpellsValueList values = Commas SpellsValue values
 
 -- '(' value,* ')'
 abbrev pub SpellsValues : ℕ → List PlainExpr → Grammar
-SpellsValues depth values = Bracketed (codes "(") (codes ")") depth (λ _. Commas SpellsValue values)
+SpellsValues depth values = InRound (λ _. SpellsValueList) depth values
+
+-- N '(' value,* ')' ';'
+abbrev pub SpellsActionCall : ℕ → Name × List PlainExpr → Grammar
+SpellsActionCall depth call = Named call.0 ⨟ SpellsValues depth call.1 ⨟ Sign (codes ";")
 
 -- (set | '(' set (',' set)* ')') ':' N '(' value,* ')' ';'
 abbrev pub SpellsEntry : ℕ → PlainEntry → Grammar
-SpellsEntry depth entry = SpellsSets depth entry.keys ⨟ Sign (codes ":") ⨟ Named entry.action ⨟ SpellsValues depth entry.args ⨟ Sign (codes ";")
+SpellsEntry depth entry = SpellsSets depth entry.keys ⨟ Sign (codes ":") ⨟ SpellsActionCall depth (entry.action, entry.args)
+
+abbrev pub SpellsEntries : ℕ → List PlainEntry → Grammar
+SpellsEntries depth entries = Each (SpellsEntry depth) entries
 
 -- 'exact' | 'ternary'
 abbrev pub SpellsMatch : Bool → Grammar
@@ -53,6 +71,13 @@ SpellsMatch false = Named (codes "exact")
 abbrev pub SpellsKey : ℕ → Key → Grammar
 SpellsKey depth key = SpellsLval depth key.field ⨟ Sign (codes ":") ⨟ SpellsMatch key.ternary ⨟ Sign (codes ";")
 
+-- N ';'
+abbrev pub SpellsActionName : Name → Grammar
+SpellsActionName name = Named name ⨟ Sign (codes ";")
+
+abbrev pub SpellsActionNames : List Name → Grammar
+SpellsActionNames names = Each SpellsActionName names
+
 -- what one property of a table says
 pub data Property : Type 0 where
   Keys : List Key → Property
@@ -61,25 +86,60 @@ pub data Property : Type 0 where
   Size : ℕ → Property
   Entries : List PlainEntry → Property
 
--- prop := 'key' '=' '{' (lval ':' ('exact' | 'ternary') ';')* '}'
---   | 'actions' '=' '{' (N ';')* '}'
---   | ['const'] 'default_action' '=' N '(' value,* ')' ';'
---   | 'size' '=' K ';'
---   | 'const' 'entries' '=' '{' ((set | '(' set (',' set)* ')') ':' N '(' value,* ')' ';')* '}'
-abbrev pub SpellsProperty : ℕ → Property → Grammar
-SpellsProperty depth (Property.Keys keys) = Named (codes "key") ⨟ Sign (codes "=") ⨟ Bracketed (codes "{") (codes "}") depth (λ inner. Each (SpellsKey inner) keys)
-SpellsProperty depth (Property.Actions names) = Named (codes "actions") ⨟ Sign (codes "=") ⨟ Bracketed (codes "{") (codes "}") depth (λ _. Each (λ name. Named name ⨟ Sign (codes ";")) names)
-SpellsProperty depth (Property.Fallback action arguments) = Either Empty (Reserved (codes "const")) ⨟ Named (codes "default_action") ⨟ Sign (codes "=") ⨟ Named action ⨟ SpellsValues depth arguments ⨟ Sign (codes ";")
-SpellsProperty depth (Property.Size size) = Where (size < 2 ^ 32) (Named (codes "size") ⨟ Sign (codes "=") ⨟ Num size ⨟ Sign (codes ";"))
-SpellsProperty depth (Property.Entries entries) = Reserved (codes "const") ⨟ Named (codes "entries") ⨟ Sign (codes "=") ⨟ Bracketed (codes "{") (codes "}") depth (λ inner. Each (SpellsEntry inner) entries)
+-- 'key' '=' '{' (lval ':' ('exact' | 'ternary') ';')* '}'
+abbrev pub SpellsKeys : ℕ → List Key → Grammar
+SpellsKeys depth keys = Named (codes "key") ⨟ Sign (codes "=") ⨟ InCurly (Many SpellsKey) depth keys
 
--- the kinds of properties, by numbers
-abbrev pub kind_of : Property → ℕ
-kind_of (Property.Keys keys) = 0
-kind_of (Property.Actions names) = 1
-kind_of (Property.Fallback action arguments) = 2
-kind_of (Property.Size size) = 3
-kind_of (Property.Entries entries) = 4
+-- 'actions' '=' '{' (N ';')* '}'
+abbrev pub SpellsActions : ℕ → List Name → Grammar
+SpellsActions depth names = Named (codes "actions") ⨟ Sign (codes "=") ⨟ InCurly (λ _. SpellsActionNames) depth names
+
+-- ['const']
+abbrev pub PerhapsConst : Unit {0} → Grammar
+PerhapsConst none = Either Empty (Reserved (codes "const"))
+
+-- ['const'] 'default_action' '=' N '(' value,* ')' ';'
+abbrev pub SpellsFallback : ℕ → Name × List PlainExpr → Grammar
+SpellsFallback depth call = PerhapsConst tt ⨟ Named (codes "default_action") ⨟ Sign (codes "=") ⨟ SpellsActionCall depth call
+
+-- 'size' '=' K ';'
+abbrev pub SpellsSize : ℕ → Grammar
+SpellsSize size = Where (size < 2 ^ 32) (Named (codes "size") ⨟ Sign (codes "=") ⨟ Num size ⨟ Sign (codes ";"))
+
+-- 'const' 'entries' '=' '{' ((set | '(' set (',' set)* ')') ':' N '(' value,* ')' ';')* '}'
+abbrev pub SpellsConstEntries : ℕ → List PlainEntry → Grammar
+SpellsConstEntries depth entries = Reserved (codes "const") ⨟ Named (codes "entries") ⨟ Sign (codes "=") ⨟ InCurly SpellsEntries depth entries
+
+-- one of these
+abbrev pub SpellsProperty : ℕ → Property → Grammar
+SpellsProperty depth (Property.Keys keys) = SpellsKeys depth keys
+SpellsProperty depth (Property.Actions names) = SpellsActions depth names
+SpellsProperty depth (Property.Fallback action arguments) = SpellsFallback depth (action, arguments)
+SpellsProperty depth (Property.Size size) = SpellsSize size
+SpellsProperty depth (Property.Entries entries) = SpellsConstEntries depth entries
+
+-- the kind of a property
+abbrev pub kind_of : Property → Kind
+kind_of (Property.Keys keys) = kind.Keys
+kind_of (Property.Actions names) = kind.Actions
+kind_of (Property.Fallback action arguments) = kind.Fallback
+kind_of (Property.Size size) = kind.Size
+kind_of (Property.Entries entries) = kind.Entries
+
+-- what a property of a kind says, and the property that says it
+abbrev pub Says : Kind → Type 0
+Says kind.Keys = List Key
+Says kind.Actions = List Name
+Says kind.Fallback = Name × List PlainExpr
+Says kind.Size = ℕ
+Says kind.Entries = List PlainEntry
+
+abbrev pub property_of : (k : Kind) → Says k → Property
+property_of kind.Keys keys = Property.Keys keys
+property_of kind.Actions names = Property.Actions names
+property_of kind.Fallback call = Property.Fallback call.0 call.1
+property_of kind.Size size = Property.Size size
+property_of kind.Entries entries = Property.Entries entries
 
 -- a table to which one property is added
 abbrev pub with_property : Property → PlainTable → PlainTable

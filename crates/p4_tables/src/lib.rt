@@ -5,8 +5,6 @@ mod entries;
 mod properties;
 mod reading;
 mod sets;
-#[cfg(test)]
-mod tests;
 
 pub use reading::table;
 pub use sets::set;

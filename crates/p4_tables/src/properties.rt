@@ -1,20 +1,17 @@
 //! The properties of a table.
 
-ghost use Rattle.std.specs.Prelude.{◌≡◌, ℕ, ◌≤◌, List, codes, IfOk, OnOk, IfErr};
-ghost use Rattle.spelling.specs.Grammar.{Begins, Either, Empty, IsNamed, Reserved};
-ghost use Rattle.elastic_ast.specs.Tree.{PlainEntry, PlainExpr};
-ghost use Rattle.elastic_ast.specs.declared.declarations.Key.{Key};
-ghost use Rattle.spelling.specs.Words.{Word};
-ghost use Rattle.spelling.specs.Reading.{ahead, Takes, MayTake, IsAnswer, IsRead, IsReading};
-ghost use Rattle.p4_tables.specs.Seen.{number_of, seen_part};
-ghost use Rattle.p4_tables.specs.Tables.{Property, SpellsProperty, kind_of};
-ghost use Rattle.spelling.specs.Bounds.{IfTooDeep, IsNeverDeep, Opens, OpensNext, Stops};
+ghost use Rattle.std.specs.Prelude.{◌≡◌, IfErr};
+ghost use Rattle.spelling.specs.Reading.{ahead};
+ghost use Rattle.spelling.specs.Bounds.{IsNeverDeep};
+ghost use Rattle.spelling.specs.Readers.{itself, Reads, ReadsWithin};
+ghost use Rattle.p4_tables.specs.Reading.{DefaultsNext, IsKindAhead, ReadsOfKind, ReadsWordsUpTo};
+ghost use Rattle.p4_tables.specs.Seen.{seen_call, seen_entries, seen_part};
+ghost use Rattle.p4_tables.specs.Tables.{SpellsActions, SpellsConstEntries, SpellsFallback, SpellsKeys, PerhapsConst, SpellsSize, kind_of};
 
-use crate::entries::{entries, keys, names};
-use crate::sets::values;
+use crate::entries::{action_call, entries, keys, names};
 use elastic_ast::{Entry, Expr, Key};
 use elx_bits::{Items, Name};
-use spelling::{Reader, SyntaxError};
+use spelling::{Reader, SyntaxError, in_brackets};
 use std::alloc::Global;
 
 /// What one property of a table says.
@@ -40,7 +37,7 @@ pub enum Kind {
 impl Part {
     /// The kind of the property.
     pub fn kind(&self) -> Kind
-        ensures { number_of result ≡ kind_of (seen_part self.now) }
+        ensures { result ≡ kind_of (seen_part self.now) }
     {
         match self {
             Part::Keys(_) => Kind::Keys,
@@ -55,7 +52,7 @@ impl Part {
 /// The kind of the property that begins at the next token. NotProgram where none begins there: it names that token, or the one
 /// behind it where that doesn't go on `const`.
 pub fn kind_ahead(reader: &Reader<'_>) -> Result<Kind, SyntaxError>
-    ensures only { (depth : ℕ) (property : Property) (rest : List Word) → MayTake (SpellsProperty depth property) (ahead reader.now) rest → IsRead number_of (kind_of property) result }
+    ensures only { IsKindAhead (ahead reader.now) result }
     ensures shallow { IfErr result IsNeverDeep }
 {
     if reader.is_at_name(b"key") {
@@ -90,101 +87,96 @@ pub fn property(
     depth: u32,
     kind: Kind,
 ) -> Result<Part, SyntaxError>
-    ensures taken { IfOk result (λ part. Takes (SpellsProperty depth (seen_part part)) (ahead reader.old) (ahead reader.new)) }
-    ensures kind { IfOk result (λ part. kind_of (seen_part part) ≡ number_of kind) }
-    ensures only { (more : ℕ) (property : Property) (rest : List Word) → kind_of property ≡ number_of kind → MayTake (SpellsProperty more property) (ahead reader.old) rest → IsReading (more ≤ depth) seen_part property rest (ahead reader.new) result }
-    ensures deep { IfErr result (IfTooDeep (Stops (Opens depth) OpensNext (ahead reader.old) (ahead reader.new))) }
+    ensures { ReadsOfKind kind depth reader.old reader.new result }
 {
     match kind {
-        Kind::Keys => keys_part(alloc, reader, depth),
-        Kind::Actions => actions_part(alloc, reader, depth),
-        Kind::Fallback => fallback_part(alloc, reader, depth),
-        Kind::Size => size_part(reader),
-        Kind::Entries => entries_part(alloc, reader, depth),
+        Kind::Keys => Ok(Part::Keys(key_block(alloc, reader, depth)?)),
+        Kind::Actions => Ok(Part::Actions(action_block(alloc, reader, depth)?)),
+        Kind::Fallback => {
+            let (action, args) = fallback(alloc, reader, depth)?;
+            Ok(Part::Fallback { action, args })
+        }
+        Kind::Size => Ok(Part::Size(size(reader)?)),
+        Kind::Entries => Ok(Part::Entries(entry_block(alloc, reader, depth)?)),
     }
 }
 
 /// `key = { KEYS }`
-fn keys_part(alloc: Global, reader: &mut Reader<'_>, depth: u32) -> Result<Part, SyntaxError>
-    ensures taken { IfOk result (λ part. Takes (SpellsProperty depth (seen_part part)) (ahead reader.old) (ahead reader.new)) }
-    ensures kind { IfOk result (λ part. kind_of (seen_part part) ≡ 0) }
-    ensures only { (more : ℕ) (keys : List Key) (rest : List Word) → MayTake (SpellsProperty more (Property.Keys keys)) (ahead reader.old) rest → IsReading (more ≤ depth) seen_part (Property.Keys keys) rest (ahead reader.new) result }
-    ensures deep { IfErr result (IfTooDeep (Stops (Opens depth) OpensNext (ahead reader.old) (ahead reader.new))) }
+fn key_block(alloc: Global, reader: &mut Reader<'_>, depth: u32) -> Result<Items<Key>, SyntaxError>
+    ensures { ReadsWithin SpellsKeys itself depth reader.old reader.new result }
 {
     reader.fixed_name(b"key")?;
     reader.sign(b"=")?;
-    let inner = reader.open(b"{", depth)?;
-    let keys = keys(alloc, reader, inner)?;
-    reader.sign(b"}")?;
-    Ok(Part::Keys(keys))
+    in_brackets(
+        reader,
+        b"{",
+        b"}",
+        depth,
+        |reader, inner| keys(alloc, reader, inner),
+    )
 }
 
 /// `actions = { NAMES }`
-fn actions_part(alloc: Global, reader: &mut Reader<'_>, depth: u32) -> Result<Part, SyntaxError>
-    ensures taken { IfOk result (λ part. Takes (SpellsProperty depth (seen_part part)) (ahead reader.old) (ahead reader.new)) }
-    ensures kind { IfOk result (λ part. kind_of (seen_part part) ≡ 1) }
-    ensures only { (more : ℕ) (names : List (List ℕ)) (rest : List Word) → MayTake (SpellsProperty more (Property.Actions names)) (ahead reader.old) rest → IsReading (more ≤ depth) seen_part (Property.Actions names) rest (ahead reader.new) result }
-    ensures deep { IfErr result (IfTooDeep (Stops (Opens depth) OpensNext (ahead reader.old) (ahead reader.new))) }
+fn action_block(
+    alloc: Global,
+    reader: &mut Reader<'_>,
+    depth: u32,
+) -> Result<Items<Name>, SyntaxError>
+    ensures { ReadsWithin SpellsActions itself depth reader.old reader.new result }
 {
     reader.fixed_name(b"actions")?;
     reader.sign(b"=")?;
-    let _inner = reader.open(b"{", depth)?;
-    let names = names(alloc, reader)?;
-    reader.sign(b"}")?;
-    Ok(Part::Actions(names))
+    in_brackets(reader, b"{", b"}", depth, |reader, _| names(alloc, reader))
 }
 
 /// `default_action = ACTION(VALUES);`, with `const` before it or without.
-fn fallback_part(alloc: Global, reader: &mut Reader<'_>, depth: u32) -> Result<Part, SyntaxError>
-    ensures taken { IfOk result (λ part. Takes (SpellsProperty depth (seen_part part)) (ahead reader.old) (ahead reader.new)) }
-    ensures kind { IfOk result (λ part. kind_of (seen_part part) ≡ 2) }
-    ensures only { (more : ℕ) (action : List ℕ) (args : List PlainExpr) (rest : List Word) → MayTake (SpellsProperty more (Property.Fallback action args)) (ahead reader.old) rest → IsReading (more ≤ depth) seen_part (Property.Fallback action args) rest (ahead reader.new) result }
-    ensures deep { IfErr result (IfTooDeep (Stops (Opens depth) OpensNext (ahead reader.old) (ahead reader.new))) }
+fn fallback(
+    alloc: Global,
+    reader: &mut Reader<'_>,
+    depth: u32,
+) -> Result<(Name, Items<Expr>), SyntaxError>
+    ensures { ReadsWithin SpellsFallback seen_call depth reader.old reader.new result }
 {
     const_before(reader)?;
     reader.fixed_name(b"default_action")?;
     reader.sign(b"=")?;
-    let action = reader.name(alloc)?;
-    let args = values(alloc, reader, depth)?;
-    reader.sign(b";")?;
-    Ok(Part::Fallback { action, args })
+    action_call(alloc, reader, depth)
 }
 
 /// `size = NUMBER;`
-fn size_part(reader: &mut Reader<'_>) -> Result<Part, SyntaxError>
-    ensures taken { IfOk result (λ part. (depth : ℕ) → Takes (SpellsProperty depth (seen_part part)) (ahead reader.old) (ahead reader.new)) }
-    ensures kind { IfOk result (λ part. kind_of (seen_part part) ≡ 3) }
-    ensures only { (depth size : ℕ) (rest : List Word) → MayTake (SpellsProperty depth (Property.Size size)) (ahead reader.old) rest → IsAnswer seen_part (Property.Size size) rest (ahead reader.new) result }
-    ensures shallow { IfErr result IsNeverDeep }
+fn size(reader: &mut Reader<'_>) -> Result<u32, SyntaxError>
+    ensures { Reads SpellsSize itself reader.old reader.new result }
 {
     reader.fixed_name(b"size")?;
     reader.sign(b"=")?;
     let size = reader.number(u128::from(u32::MAX))? as u32;
     reader.sign(b";")?;
-    Ok(Part::Size(size))
+    Ok(size)
 }
 
 /// `const entries = { ENTRIES }`
-fn entries_part(alloc: Global, reader: &mut Reader<'_>, depth: u32) -> Result<Part, SyntaxError>
-    ensures taken { IfOk result (λ part. Takes (SpellsProperty depth (seen_part part)) (ahead reader.old) (ahead reader.new)) }
-    ensures kind { IfOk result (λ part. kind_of (seen_part part) ≡ 4) }
-    ensures only { (more : ℕ) (entries : List PlainEntry) (rest : List Word) → MayTake (SpellsProperty more (Property.Entries entries)) (ahead reader.old) rest → IsReading (more ≤ depth) seen_part (Property.Entries entries) rest (ahead reader.new) result }
-    ensures deep { IfErr result (IfTooDeep (Stops (Opens depth) OpensNext (ahead reader.old) (ahead reader.new))) }
+fn entry_block(
+    alloc: Global,
+    reader: &mut Reader<'_>,
+    depth: u32,
+) -> Result<Items<Entry>, SyntaxError>
+    ensures { ReadsWithin SpellsConstEntries seen_entries depth reader.old reader.new result }
 {
     reader.reserved(b"const")?;
     reader.fixed_name(b"entries")?;
     reader.sign(b"=")?;
-    let inner = reader.open(b"{", depth)?;
-    let entries = entries(alloc, reader, inner)?;
-    reader.sign(b"}")?;
-    Ok(Part::Entries(entries))
+    in_brackets(
+        reader,
+        b"{",
+        b"}",
+        depth,
+        |reader, inner| entries(alloc, reader, inner),
+    )
 }
 
 /// Goes over `const`, where it is there.
 fn const_before(reader: &mut Reader<'_>) -> Result<(), SyntaxError>
-    ensures taken { OnOk result (MayTake (Either Empty (Reserved (codes "const"))) (ahead reader.old) (ahead reader.new)) }
-    ensures only { (rest : List Word) → MayTake (Either Empty (Reserved (codes "const"))) (ahead reader.old) rest → Begins (IsNamed (codes "default_action")) rest → IsAnswer (λ read. read) tt rest (ahead reader.new) result }
-    ensures shallow { IfErr result IsNeverDeep }
+    ensures { ReadsWordsUpTo DefaultsNext PerhapsConst itself reader.old reader.new result }
 {
     if !reader.is_at_reserved(b"const") {
         return Ok(());

@@ -1,35 +1,45 @@
 //! A whole table.
 
-ghost use Rattle.std.specs.Prelude.{◌≡◌, ◌≢◌, ℕ, ◌≤◌, ◌↔◌, false, List, All, AllPairs, map, codes, IfOk, IfErr};
+ghost use Rattle.std.specs.Prelude.{◌≡◌, ◌≢◌, ◌↔◌, false, All, map};
 ghost use Rattle.elastic_ast.specs.Seen.{seen_table};
-ghost use Rattle.elastic_ast.specs.Tree.{PlainTable};
-ghost use Rattle.spelling.specs.Words.{Word};
-ghost use Rattle.spelling.specs.Grammar.{Begins, Each, IsSign};
-ghost use Rattle.spelling.specs.Reading.{ahead, Takes, MayTake, IsReading};
-ghost use Rattle.p4_tables.specs.Seen.{number_of, seen_part};
-ghost use Rattle.p4_tables.specs.Tables.{Property, SpellsProperty, SpellsTable, kind_of, table_with, with_property};
-ghost use Rattle.spelling.specs.Bounds.{IfTooDeep, Opens, OpensNext, Stops};
+ghost use Rattle.spelling.specs.Readers.{ClosesNext, InCurly, ReadsUpTo, ReadsWithin};
+ghost use Rattle.p4_tables.specs.Reading.{ReadsOther, SpellsProperties};
+ghost use Rattle.p4_tables.specs.Seen.{seen_part, seen_parts};
+ghost use Rattle.p4_tables.specs.Tables.{SpellsTable, kind_of, table_with, with_property};
 
 use crate::properties::{Kind, Part, kind_ahead, property};
 use elastic_ast::Table;
 use elx_bits::{Items, Name};
-use spelling::{Reader, SyntaxError, keep};
+use spelling::{Reader, SyntaxError, in_brackets, keep};
 use std::alloc::Global;
 
 /// Reads a table: `table NAME { PROPERTIES }`, its properties in any order, no two of one kind. `depth` is how many brackets
 /// may be open from here on. NotProgram names the token that doesn't go on what stands before it: the first of a second
 /// property of a kind is such a one. TooDeep names a bracket that `depth` doesn't allow.
 pub fn table(alloc: Global, reader: &mut Reader<'_>, depth: u32) -> Result<Table, SyntaxError>
-    ensures taken { IfOk result (λ table. Takes (SpellsTable depth (seen_table table)) (ahead reader.old) (ahead reader.new)) }
-    ensures only { (more : ℕ) (table : PlainTable) (rest : List Word) → MayTake (SpellsTable more table) (ahead reader.old) rest → IsReading (more ≤ depth) seen_table table rest (ahead reader.new) result }
-    ensures deep { IfErr result (IfTooDeep (Stops (Opens depth) OpensNext (ahead reader.old) (ahead reader.new))) }
+    ensures { ReadsWithin SpellsTable seen_table depth reader.old reader.new result }
 {
     reader.reserved(b"table")?;
     let name = reader.name(alloc)?;
-    let inner = reader.open(b"{", depth)?;
-    let parts = properties(alloc, reader, inner)?;
-    reader.sign(b"}")?;
+    let parts = property_block(alloc, reader, depth)?;
     Ok(table_of(alloc, name, parts))
+}
+
+/// `{ PROPERTIES }`
+fn property_block(
+    alloc: Global,
+    reader: &mut Reader<'_>,
+    depth: u32,
+) -> Result<Items<Part>, SyntaxError>
+    ensures { ReadsWithin (InCurly SpellsProperties) seen_parts depth reader.old reader.new result }
+{
+    in_brackets(
+        reader,
+        b"{",
+        b"}",
+        depth,
+        |reader, inner| properties(alloc, reader, inner),
+    )
 }
 
 /// Reads properties up to the closing bracket, no two of one kind.
@@ -38,10 +48,7 @@ fn properties(
     reader: &mut Reader<'_>,
     depth: u32,
 ) -> Result<Items<Part>, SyntaxError>
-    ensures taken { IfOk result (λ parts. MayTake (Each (SpellsProperty depth) (map seen_part parts)) (ahead reader.old) (ahead reader.new)) }
-    ensures no_two { IfOk result (λ parts. AllPairs (λ one other. kind_of one ≢ kind_of other) (map seen_part parts)) }
-    ensures only { (more : ℕ) (properties : List Property) (rest : List Word) → MayTake (Each (SpellsProperty more) properties) (ahead reader.old) rest → AllPairs (λ one other. kind_of one ≢ kind_of other) properties → Begins (IsSign (codes "}")) rest → IsReading (more ≤ depth) (map seen_part) properties rest (ahead reader.new) result }
-    ensures deep { IfErr result (IfTooDeep (Stops (Opens depth) OpensNext (ahead reader.old) (ahead reader.new))) }
+    ensures { ReadsUpTo ClosesNext SpellsProperties seen_parts depth reader.old reader.new result }
 {
     let mut parts = Items::new(alloc);
     'parts: while !reader.is_at_sign(b"}") {
@@ -58,10 +65,7 @@ fn other_property(
     depth: u32,
     parts: &[Part],
 ) -> Result<Part, SyntaxError>
-    ensures taken { IfOk result (λ part. Takes (SpellsProperty depth (seen_part part)) (ahead reader.old) (ahead reader.new)) }
-    ensures other { IfOk result (λ part. All (λ one. kind_of one ≢ kind_of (seen_part part)) (map seen_part parts.now)) }
-    ensures only { (more : ℕ) (property : Property) (rest : List Word) → MayTake (SpellsProperty more property) (ahead reader.old) rest → All (λ one. kind_of one ≢ kind_of property) (map seen_part parts.now) → IsReading (more ≤ depth) seen_part property rest (ahead reader.new) result }
-    ensures deep { IfErr result (IfTooDeep (Stops (Opens depth) OpensNext (ahead reader.old) (ahead reader.new))) }
+    ensures { ReadsOther parts.now depth reader.old reader.new result }
 {
     let kind = kind_ahead(reader)?;
     if is_there(parts, kind) {
@@ -72,7 +76,7 @@ fn other_property(
 
 /// Whether one of the properties is of this kind.
 fn is_there(parts: &[Part], kind: Kind) -> bool
-    ensures { result ≡ false ↔ All (λ one. kind_of one ≢ number_of kind) (map seen_part parts.now) }
+    ensures { result ≡ false ↔ All (λ one. kind_of one ≢ kind) (map seen_part parts.now) }
 {
     for part in parts {
         if part.kind() == kind {

@@ -1,27 +1,22 @@
 //! Values, and sets of what a key may be.
 
-ghost use Rattle.std.specs.Prelude.{ℕ, ◌≤◌, List, map, codes, IfOk, IfErr};
 ghost use Rattle.elastic_ast.specs.Seen.{seen_expr, seen_exprs, seen_keyset};
-ghost use Rattle.elastic_ast.specs.Tree.{PlainExpr, PlainKeyset};
-ghost use Rattle.spelling.specs.Words.{Word};
-ghost use Rattle.spelling.specs.Grammar.{Begins, Commas, IsSign, Separated, Sign};
-ghost use Rattle.spelling.specs.Reading.{ahead, Takes, MayTake, Ends, IsAnswer, IsReading};
-ghost use Rattle.p4_tables.specs.GoesOn.{set_signs, set_list_signs};
-ghost use Rattle.p4_tables.specs.Tables.{SpellsOneSet, SpellsSet, SpellsSets, SpellsValue, SpellsValues};
-ghost use Rattle.spelling.specs.Bounds.{IfTooDeep, IsNeverDeep, Opens, OpensNext, Stops};
+ghost use Rattle.spelling.specs.Readers.{Reads, ReadsBefore, ReadsWithin, ReadsWithinBefore};
+ghost use Rattle.p4_tables.specs.Seen.{seen_sets};
+ghost use Rattle.p4_tables.specs.GoesOn.{EndsSet, EndsSetList};
+ghost use Rattle.p4_tables.specs.Reading.{EndsRound, ReadsWordsUpTo};
+ghost use Rattle.p4_tables.specs.Tables.{SpellsOneSet, SpellsSet, SpellsSetList, SpellsSets, SpellsValue, SpellsValueList, SpellsValues};
 
 use elastic_ast::{Expr, Keyset};
 use elx_bits::Items;
 use p4_expr::number;
-use spelling::{Reader, SyntaxError, keep};
+use spelling::{Reader, SyntaxError, in_brackets, keep, separated};
 use std::alloc::Global;
 
 /// Reads a set of a key: a value, a value with a mask, or `_` for any. NotProgram where none follows, or no value behind the
 /// sign of a mask.
 pub fn set(alloc: Global, reader: &mut Reader<'_>) -> Result<Keyset, SyntaxError>
-    ensures taken { IfOk result (λ set. Takes (SpellsSet (seen_keyset set)) (ahead reader.old) (ahead reader.new)) }
-    ensures only { (set : PlainKeyset) (rest : List Word) → MayTake (SpellsSet set) (ahead reader.old) rest → Ends set_signs rest → IsAnswer seen_keyset set rest (ahead reader.new) result }
-    ensures shallow { IfErr result IsNeverDeep }
+    ensures { ReadsBefore EndsSet SpellsSet seen_keyset reader.old reader.new result }
 {
     if reader.is_at_reserved(b"_") {
         reader.reserved(b"_")?;
@@ -41,17 +36,18 @@ pub fn sets(
     reader: &mut Reader<'_>,
     depth: u32,
 ) -> Result<Items<Keyset>, SyntaxError>
-    ensures taken { IfOk result (λ sets. Takes (SpellsSets depth (map seen_keyset sets)) (ahead reader.old) (ahead reader.new)) }
-    ensures only { (more : ℕ) (sets : List PlainKeyset) (rest : List Word) → MayTake (SpellsSets more sets) (ahead reader.old) rest → Ends set_signs rest → IsReading (more ≤ depth) (map seen_keyset) sets rest (ahead reader.new) result }
-    ensures deep { IfErr result (IfTooDeep (Stops (Opens depth) OpensNext (ahead reader.old) (ahead reader.new))) }
+    ensures { ReadsWithinBefore EndsSet SpellsSets seen_sets depth reader.old reader.new result }
 {
     if !reader.is_at_sign(b"(") {
         return one_set(alloc, reader);
     }
-    let _inner = reader.open(b"(", depth)?;
-    let sets = set_list(alloc, reader)?;
-    reader.sign(b")")?;
-    Ok(sets)
+    in_brackets(
+        reader,
+        b"(",
+        b")",
+        depth,
+        |reader, _| set_list(alloc, reader),
+    )
 }
 
 /// Reads values in brackets, with commas between them. `depth` is how many brackets may be open from here on.
@@ -60,21 +56,20 @@ pub fn values(
     reader: &mut Reader<'_>,
     depth: u32,
 ) -> Result<Items<Expr>, SyntaxError>
-    ensures taken { IfOk result (λ values. Takes (SpellsValues depth (seen_exprs values)) (ahead reader.old) (ahead reader.new)) }
-    ensures only { (more : ℕ) (values : List PlainExpr) (rest : List Word) → MayTake (SpellsValues more values) (ahead reader.old) rest → IsReading (more ≤ depth) seen_exprs values rest (ahead reader.new) result }
-    ensures deep { IfErr result (IfTooDeep (Stops (Opens depth) OpensNext (ahead reader.old) (ahead reader.new))) }
+    ensures { ReadsWithin SpellsValues seen_exprs depth reader.old reader.new result }
 {
-    let _inner = reader.open(b"(", depth)?;
-    let values = value_list(alloc, reader)?;
-    reader.sign(b")")?;
-    Ok(values)
+    in_brackets(
+        reader,
+        b"(",
+        b")",
+        depth,
+        |reader, _| value_list(alloc, reader),
+    )
 }
 
 /// Reads a set, as the list of it.
 fn one_set(alloc: Global, reader: &mut Reader<'_>) -> Result<Items<Keyset>, SyntaxError>
-    ensures taken { IfOk result (λ sets. Takes (SpellsOneSet (map seen_keyset sets)) (ahead reader.old) (ahead reader.new)) }
-    ensures only { (sets : List PlainKeyset) (rest : List Word) → MayTake (SpellsOneSet sets) (ahead reader.old) rest → Ends set_signs rest → IsAnswer (map seen_keyset) sets rest (ahead reader.new) result }
-    ensures shallow { IfErr result IsNeverDeep }
+    ensures { ReadsBefore EndsSet SpellsOneSet seen_sets reader.old reader.new result }
 {
     let mut sets = Items::new(alloc);
     let set = set(alloc, reader)?;
@@ -84,44 +79,24 @@ fn one_set(alloc: Global, reader: &mut Reader<'_>) -> Result<Items<Keyset>, Synt
 
 /// Reads sets with commas between them, at least one.
 fn set_list(alloc: Global, reader: &mut Reader<'_>) -> Result<Items<Keyset>, SyntaxError>
-    ensures taken { IfOk result (λ sets. Takes (Separated (Sign (codes ",")) SpellsSet (map seen_keyset sets)) (ahead reader.old) (ahead reader.new)) }
-    ensures only { (sets : List PlainKeyset) (rest : List Word) → MayTake (Separated (Sign (codes ",")) SpellsSet sets) (ahead reader.old) rest → Ends set_list_signs rest → IsAnswer (map seen_keyset) sets rest (ahead reader.new) result }
-    ensures shallow { IfErr result IsNeverDeep }
+    ensures { ReadsBefore EndsSetList SpellsSetList seen_sets reader.old reader.new result }
 {
-    let mut sets = Items::new(alloc);
-    let first = set(alloc, reader)?;
-    keep(&mut sets, first)?;
-    'sets: while reader.eat_sign(b",") {
-        let set = set(alloc, reader)?;
-        keep(&mut sets, set)?;
-    }
-    Ok(sets)
+    separated(alloc, reader, b",", |reader| set(alloc, reader))
 }
 
 /// Reads values with commas between them, perhaps none, up to the closing bracket.
 fn value_list(alloc: Global, reader: &mut Reader<'_>) -> Result<Items<Expr>, SyntaxError>
-    ensures taken { IfOk result (λ values. MayTake (Commas SpellsValue (seen_exprs values)) (ahead reader.old) (ahead reader.new)) }
-    ensures only { (values : List PlainExpr) (rest : List Word) → MayTake (Commas SpellsValue values) (ahead reader.old) rest → Begins (IsSign (codes ")")) rest → IsAnswer seen_exprs values rest (ahead reader.new) result }
-    ensures shallow { IfErr result IsNeverDeep }
+    ensures { ReadsWordsUpTo EndsRound SpellsValueList seen_exprs reader.old reader.new result }
 {
-    let mut values = Items::new(alloc);
     if reader.is_at_sign(b")") {
-        return Ok(values);
+        return Ok(Items::new(alloc));
     }
-    let first = value(alloc, reader)?;
-    keep(&mut values, first)?;
-    'values: while reader.eat_sign(b",") {
-        let value = value(alloc, reader)?;
-        keep(&mut values, value)?;
-    }
-    Ok(values)
+    separated(alloc, reader, b",", |reader| value(alloc, reader))
 }
 
 /// Reads a value: a number or a name.
 fn value(alloc: Global, reader: &mut Reader<'_>) -> Result<Expr, SyntaxError>
-    ensures taken { IfOk result (λ value. Takes (SpellsValue (seen_expr value)) (ahead reader.old) (ahead reader.new)) }
-    ensures only { (value : PlainExpr) (rest : List Word) → MayTake (SpellsValue value) (ahead reader.old) rest → IsAnswer seen_expr value rest (ahead reader.new) result }
-    ensures shallow { IfErr result IsNeverDeep }
+    ensures { Reads SpellsValue seen_expr reader.old reader.new result }
 {
     if !reader.is_at_number() {
         let name = reader.name(alloc)?;

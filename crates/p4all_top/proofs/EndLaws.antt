@@ -1,36 +1,36 @@
 -- How a run must end, from what it answers: no two causes stand together.
-use Rattle.std.proofs.Common.{◌≡◌, ℕ, ◌<◌, ◌≤◌, List, [], length, get_or, Option, Some, None, refl, sym, ap, ◌∙◌, subst, arith, inl, inr, rules}
+use Rattle.std.proofs.Common.{◌≡◌, ℕ, ◌<◌, ◌≤◌, List, [], ◌∷◌, length, get_or, Option, Some, None, refl, sym, ap, ◌∙◌, subst, arith, inl, inr, rules}
 use Rattle.std.proofs.lemmas.Grind.{same_number_lists}
 use Rattle.elastic_ast.specs.Tree.{PlainProgram}
-use Rattle.elastic_ast.specs.Sums.{symbols_of}
+use Rattle.elastic_ast.specs.Sizes.SizeSums.{symbols_of}
 use Rattle.target_desc.specs.declared.target.Target.{Target}
 use Rattle.target_desc.specs.TargetText.{IsTargetText}
-use Rattle.p4all_top.specs.declared.reading.Refusal.{Refusal}
-use Rattle.p4all_top.specs.declared.reading.Refusal.TheVariants as refusal
+use Rattle.p4all_top.specs.declared.parsing.Refusal.{Refusal}
+use Rattle.p4all_top.specs.declared.parsing.Refusal.TheVariants as refusal
 use Rattle.p4all_top.specs.declared.status.Status.{Status}
 use Rattle.p4all_top.specs.declared.status.Status.TheVariants as status
-use Rattle.p4all_top.specs.Answer.{IsAnswerFor, IsNotTaken, IsSizeAnswer}
-use Rattle.p4all_top.specs.Choice.{bound_of, AreBoundsOf, IsBounded, IsTooLarge, IsUnbounded}
-use Rattle.p4all_top.specs.Commands.{IsShown}
+use Rattle.p4all_top.specs.Answer.{Answer, AreTaken}
+use Rattle.box_listing.specs.Choice.{IsBounded, IsTooLarge}
+use Rattle.unroll_bound.specs.ProgramBounds.{bound_of, AreBoundsOf, IsUnbounded}
+use Rattle.p4all_top.specs.Command.{Size}
 use Rattle.p4all_top.specs.Description.{IsDescription, IsNoDescription, IsTargetRefused}
 use Rattle.p4all_top.specs.Ending.{MustEnd, EndsOn, EndsBy}
-use Rattle.p4all_top.specs.Listing.{points_in}
+use Rattle.dep_graph.specs.Feasible.{Feasible}
+use Rattle.p4all_top.specs.Limits.{most_source}
+use Rattle.box_listing.specs.Listing.{points_in}
+use Rattle.dep_graph.specs.Optimum.{Infeasible}
 use Rattle.p4all_top.specs.Source.{IsProgram, IsNoSource}
+use Rattle.p4all_top.specs.Stopping.{IsStop}
 use Rattle.p4all_top.proofs.SourceLaws.{refused_source}
-
-must : (expected ended : Status) → ended ≡ expected → MustEnd expected ended
-must expected status.Memory e = tt
-must expected status.Fault e = tt
-must expected _ e = e
-
-some_same : (x y : ℕ) → Some x ≡ Some y → x ≡ y
-some_same x y e = cc
 
 -- a program has one list of bounds on a target
 one_bounds : (decls : PlainProgram) (on : Target) (bounds other : List ℕ) → AreBoundsOf decls on bounds → AreBoundsOf decls on other → bounds ≡ other
 one_bounds decls on bounds other a b =
     same_number_lists bounds other (a.dense ∙ sym b.dense)
-    (λ k h. let within : k < length (symbols_of decls) = let d = a.dense in omega (arith, d, h) in some_same (get_or bounds k 0) (get_or other k 0) (sym (a.each k within) ∙ b.each k within))
+    (λ k h. let within : k < length (symbols_of decls) = let d = a.dense in omega (arith, d, h) in same (get_or bounds k 0) (get_or other k 0) (sym (a.each k within) ∙ b.each k within))
+  where
+    same : (x y : ℕ) → Some x ≡ Some y → x ≡ y
+    same x y e = cc
 
 never_missing : (decls : PlainProgram) (on : Target) (bounds : List ℕ) (place : ℕ) → AreBoundsOf decls on bounds → IsUnbounded decls on place → ⊥
 never_missing decls on bounds place a u = missing (bound_of decls on place) (get_or bounds place 0) (a.each place u.within) u.missing
@@ -41,43 +41,47 @@ never_missing decls on bounds place a u = missing (bound_of decls on place) (get
 never_both : (decls : PlainProgram) (on : Target) → IsBounded decls on → IsTooLarge decls on → ⊥
 never_both decls on few many =
     let e : points_in few.bounds ≡ points_in many.bounds = ap points_in (one_bounds decls on few.bounds many.bounds few.are_bounds many.are_bounds) in
-    absurd (apart (points_in few.bounds) (points_in many.bounds) e few.listable many.many)
-  where
-    apart : (a b : ℕ) → a ≡ b → a ≤ 1000000 → 1000000 < b → ⊥
-    apart a b e f m = omega arith
+    let listable = few.listable in
+    let large = many.many in
+    absurd (omega (arith, e, listable, large))
 
--- what a program and a target make of the end
-pub ends_on : (decls : PlainProgram) (on : Target) (ended : Status) (printed : List ℕ) → IsAnswerFor decls on ended printed → EndsOn decls on ended
-ends_on decls on status.Done printed shows = record {
-  unbounded = λ place u. absurd (never_missing decls on shows.bounded.bounds place shows.bounded.are_bounds u);
-  too_large = λ many. absurd (never_both decls on shows.bounded many);
-  best = λ bounded sizes placement feasible. refl;
-  none = λ bounded infeasible. absurd (infeasible shows.sizes [] shows.best.feasible);
+-- how a run ends that answers a program on a target
+answers_best : (decls : PlainProgram) (on : Target) → IsBounded decls on → (sizes : List ℕ) → Feasible decls on sizes [] → EndsOn decls on status.Done
+answers_best decls on bounded sizes feasible = record {
+  unbounded = λ place u. absurd (never_missing decls on bounded.bounds place bounded.are_bounds u);
+  too_large = λ many. absurd (never_both decls on bounded many);
+  best = λ _ sizes placement good. refl;
+  none = λ _ infeasible. absurd (infeasible sizes [] feasible);
 }
-ends_on decls on status.Infeasible printed shows = record {
-  unbounded = λ place u. absurd (never_missing decls on shows.bounded.bounds place shows.bounded.are_bounds u);
-  too_large = λ many. absurd (never_both decls on shows.bounded many);
-  best = λ bounded sizes placement feasible. absurd (shows.none sizes placement feasible);
-  none = λ bounded infeasible. refl;
+
+answers_infeasible : (decls : PlainProgram) (on : Target) → IsBounded decls on → Infeasible decls on → EndsOn decls on status.Infeasible
+answers_infeasible decls on bounded none = record {
+  unbounded = λ place u. absurd (never_missing decls on bounded.bounds place bounded.are_bounds u);
+  too_large = λ many. absurd (never_both decls on bounded many);
+  best = λ _ sizes placement good. absurd (none sizes placement good);
+  none = λ _ infeasible. refl;
 }
-ends_on decls on status.Refused printed (inl shows) = record {
+
+answers_unbounded : (decls : PlainProgram) (on : Target) (place : ℕ) → IsUnbounded decls on place → EndsOn decls on status.Refused
+answers_unbounded decls on place unbounded = record {
   unbounded = λ place u. refl;
   too_large = λ many. refl;
-  best = λ bounded sizes placement feasible. absurd (never_missing decls on bounded.bounds shows.place bounded.are_bounds shows.unbounded);
-  none = λ bounded infeasible. absurd (never_missing decls on bounded.bounds shows.place bounded.are_bounds shows.unbounded);
+  best = λ bounded sizes placement good. absurd (never_missing decls on bounded.bounds place bounded.are_bounds unbounded);
+  none = λ bounded infeasible. absurd (never_missing decls on bounded.bounds place bounded.are_bounds unbounded);
 }
-ends_on decls on status.Refused printed (inr shows) = record {
+
+answers_too_large : (decls : PlainProgram) (on : Target) → IsTooLarge decls on → EndsOn decls on status.Refused
+answers_too_large decls on many = record {
   unbounded = λ place u. refl;
   too_large = λ many. refl;
-  best = λ bounded sizes placement feasible. absurd (never_both decls on bounded shows.many);
-  none = λ bounded infeasible. absurd (never_both decls on bounded shows.many);
+  best = λ bounded sizes placement good. absurd (never_both decls on bounded many);
+  none = λ bounded infeasible. absurd (never_both decls on bounded many);
 }
-ends_on decls on _ printed shows = absurd shows
 
 one_target : (text : List ℕ) (one other : Target) → IsTargetText text one → IsTargetText text other → one ≡ other
 one_target text one other a b = search rules
 
-pub no_source : (text : List ℕ) (decls : PlainProgram) → length text ≤ 16777216 → IsProgram text decls → IsNoSource text → ⊥
+pub no_source : (text : List ℕ) (decls : PlainProgram) → length text ≤ most_source → IsProgram text decls → IsNoSource text → ⊥
 no_source text decls short program (inl long) = absurd (omega arith)
 no_source text decls short program (inr none) = none decls program
 
@@ -91,42 +95,50 @@ refused_target text refusal.LongTarget bad = inl bad
 refused_target text refusal.NotYet bad = inr bad.1
 refused_target text _ bad = absurd bad
 
--- what a source and a description make of the end
-pub ends_by : (source target : List ℕ) (ended : Status) (printed : List ℕ) → IsSizeAnswer source target ended printed → EndsBy source target ended
-ends_by source target ended printed (inl both) = record {
-  no_source = λ bad. absurd (no_source source both.decls both.source_is.short both.source_is.program.program bad);
-  no_target = λ bad. absurd (no_target target both.on both.target_is bad);
-  both = λ decls on short program described.
-      let P : PlainProgram → Type 0 = λ z. EndsOn z on ended in
-      let Q : Target → Type 0 = λ z. EndsOn both.decls z ended in
-      subst P (sym (both.source_is.program.only decls program))
-      (subst Q (one_target target both.on on both.target_is.described described.described) (ends_on both.decls both.on ended printed both.answer));
+-- the end that a program and a target demand is that of the source and the description that lead to them
+ends_both : (source target : List ℕ) (decls : PlainProgram) (on : Target) (ended : Status) → AreTaken source target decls on → EndsOn decls on ended → EndsBy source target ended
+ends_both source target decls on ended taken ends = record {
+  no_source = λ bad. absurd (no_source source decls taken.source_is.short taken.source_is.program.program bad);
+  no_target = λ bad. absurd (no_target target on taken.target_is bad);
+  both = λ other there short program described.
+      let P : PlainProgram → Type 0 = λ z. EndsOn z there ended in
+      let Q : Target → Type 0 = λ z. EndsOn decls z ended in
+      subst P (sym (taken.source_is.program.only other program))
+      (subst Q (one_target target on there taken.target_is.described described.described) ends);
 }
-ends_by source target ended printed (inr refuses) = record {
-  no_source = λ bad. must status.Refused ended refuses.status_is;
-  no_target = λ bad. must status.Refused ended refuses.status_is;
-  both = λ decls on short program described. absurd (taken refuses.why decls on short program described refuses.cause);
-}
-  where
-    taken : (why : Refusal) (decls : PlainProgram) (on : Target) → length source ≤ 16777216 → IsProgram source decls → IsDescription target on → IsNotTaken source target why → ⊥
-    taken why decls on short program described (inl bad) = no_source source decls short program (refused_source source why bad)
-    taken why decls on short program described (inr bad) = no_target target on described (refused_target target why bad.2)
 
--- a run that anything may end
-pub may_end : (source target : List ℕ) (ended : Status) → ((expected : Status) → MustEnd expected ended) → EndsBy source target ended
-may_end source target ended any = record {
-  no_source = λ bad. any status.Refused;
-  no_target = λ bad. any status.Refused;
+-- what a source and a description make of the end
+pub ends_by : (source target text description : List ℕ) (ended : Status) (set : List (List ℕ × List ℕ)) (printed : List ℕ) → Answer (Size source target) (text ∷ description ∷ []) ended set printed → EndsBy text description ended
+ends_by source target text description status.Done set printed (_, a) = ends_both text description a.decls a.on status.Done a.taken (answers_best a.decls a.on a.bounded a.sizes a.best.feasible)
+ends_by source target text description status.Infeasible set printed (_, a) = ends_both text description a.decls a.on status.Infeasible a.taken (answers_infeasible a.decls a.on a.bounded a.none)
+ends_by source target text description status.Refused set printed (_, inl a) = record {
+  no_source = λ bad. refl;
+  no_target = λ bad. refl;
+  both = λ decls on short program described. absurd (no_source text decls short program (refused_source text a.why a.cause));
+}
+ends_by source target text description status.Refused set printed (_, inr (inl a)) = record {
+  no_source = λ bad. refl;
+  no_target = λ bad. refl;
+  both = λ decls on short program described. absurd (no_target description on described (refused_target description a.why a.cause));
+}
+ends_by source target text description status.Refused set printed (_, inr (inr (inl a))) = ends_both text description a.decls a.on status.Refused a.taken (answers_unbounded a.decls a.on a.place a.unbounded)
+ends_by source target text description status.Refused set printed (_, inr (inr (inr a))) = ends_both text description a.decls a.on status.Refused a.taken (answers_too_large a.decls a.on a.many)
+ends_by source target text description _ set printed a = absurd a
+
+-- a run that was stopped may be one of any source and description
+pub may_stop : (source target : List ℕ) (ended : Status) → IsStop ended → EndsBy source target ended
+may_stop source target ended stopped = record {
+  no_source = λ bad. any status.Refused ended stopped;
+  no_target = λ bad. any status.Refused ended stopped;
   both = λ decls on short program described. record {
-    unbounded = λ place u. any status.Refused;
-    too_large = λ many. any status.Refused;
-    best = λ bounded sizes placement feasible. any status.Done;
-    none = λ bounded infeasible. any status.Infeasible;
+    unbounded = λ place u. any status.Refused ended stopped;
+    too_large = λ many. any status.Refused ended stopped;
+    best = λ bounded sizes placement feasible. any status.Done ended stopped;
+    none = λ bounded infeasible. any status.Infeasible ended stopped;
   };
 }
-
--- the end that a put shows is that of the answer, or one that may always come
-pub ends_shown : (source target lines : List ℕ) (ended shown : Status) (before now : Option (List ℕ)) → IsSizeAnswer source target ended lines → IsShown lines ended shown before now → EndsBy source target shown
-ends_shown source target lines ended status.Memory before now a s = may_end source target status.Memory (λ expected. tt)
-ends_shown source target lines ended status.Fault before now a s = may_end source target status.Fault (λ expected. tt)
-ends_shown source target lines ended shown before now a s = subst (λ (z : Status). EndsBy source target z) (sym s.0) (ends_by source target ended lines a)
+  where
+    any : (expected ended : Status) → IsStop ended → MustEnd expected ended
+    any expected status.Memory stopped = tt
+    any expected status.Fault stopped = tt
+    any expected _ stopped = absurd stopped

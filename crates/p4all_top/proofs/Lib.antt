@@ -1,11 +1,6 @@
 pub mod AnswerLaws
-pub mod BoundLaws
-pub mod ChoiceLaws
 pub mod EndLaws
-pub mod HeaderLaws
+pub mod FoundLaws
 pub mod LineLaws
-pub mod ListingLaws
-pub mod ShowLaws
+pub mod RunLaws
 pub mod SourceLaws
-pub mod UseLaws
-pub mod WithinLaws

@@ -1,26 +1,17 @@
 -- The lines of sizes, one symbol after another.
-use Rattle.std.proofs.Common.{◌≡◌, ℕ, zero, suc, ◌+◌, ◌<◌, ◌≤◌, List, [], ◌∷◌, drop, length, get_or, refl, sym, ap, ◌∙◌, arith}
-use Rattle.width_check.proofs.Steps.{items_drop}
-use Rattle.p4all_top.specs.Answer.{with_size, with_sizes}
+use Rattle.std.proofs.Common.{◌≡◌, ℕ, ◌+◌, ◌<◌, ◌≤◌, List, ◌∷◌, drop, drop-cons, drop_of_length-le, length, get_or, add-one, sym, ap, ◌∙◌}
+use Rattle.p4all_top.specs.Printed.{with_size, with_sizes}
+
+next : {A : Type 0} (xs : List A) (i : ℕ) (d : A) → i < length xs → drop i xs ≡ get_or xs i d ∷ drop (i + 1) xs
+next xs i d h = drop-cons xs i d h ∙ ap (λ k. get_or xs i d ∷ drop k xs) (sym (add-one i))
 
 pub with_step : (text new : List ℕ) (symbols : List (List ℕ)) (sizes : List ℕ) (i : ℕ) (symbol : List ℕ) (whole : List ℕ) → i < length symbols → i < length sizes → symbol ≡ get_or symbols i symbol → new ≡ with_size text symbol (get_or sizes i 0)
     → with_sizes text (drop i symbols) (drop i sizes) ≡ whole → with_sizes new (drop (i + 1) symbols) (drop (i + 1) sizes) ≡ whole
 unfolding with_sizes
 with_step text new symbols sizes i symbol whole h k e n inv =
     ap (λ t. with_sizes t (drop (i + 1) symbols) (drop (i + 1) sizes)) n
-    ∙ sym (ap (λ z. with_sizes text z (drop i sizes)) (items_drop symbols i symbol h e) ∙ ap (λ z. with_sizes text (symbol ∷ drop (i + 1) symbols) z) (items_drop sizes i (get_or sizes i 0) k (here sizes i))) ∙ inv
-  where
-    here : (xs : List ℕ) (i : ℕ) → get_or xs i 0 ≡ get_or xs i (get_or xs i 0)
-    here [] i = refl
-    here (x ∷ xs) zero = refl
-    here (x ∷ xs) (suc i) = here xs i
-
-drop_all : {A : Type 0} (xs : List A) (i : ℕ) → length xs ≤ i → drop i xs ≡ []
-drop_all [] zero h = refl
-drop_all [] (suc i) h = refl
-drop_all (x ∷ xs) zero h = absurd (omega arith)
-drop_all (x ∷ xs) (suc i) h = drop_all xs i (omega arith)
+    ∙ sym (ap (λ z. with_sizes text z (drop i sizes)) (next symbols i symbol h ∙ ap (λ z. z ∷ drop (i + 1) symbols) (sym e)) ∙ ap (λ z. with_sizes text (symbol ∷ drop (i + 1) symbols) z) (next sizes i 0 k)) ∙ inv
 
 pub with_all : (text : List ℕ) (symbols : List (List ℕ)) (sizes : List ℕ) (i : ℕ) (whole : List ℕ) → length symbols ≤ i → with_sizes text (drop i symbols) (drop i sizes) ≡ whole → text ≡ whole
 unfolding with_sizes
-with_all text symbols sizes i whole h inv = ap (λ z. with_sizes text z (drop i sizes)) (sym (drop_all symbols i h)) ∙ inv
+with_all text symbols sizes i whole h inv = ap (λ z. with_sizes text z (drop i sizes)) (sym (drop_of_length-le symbols h)) ∙ inv

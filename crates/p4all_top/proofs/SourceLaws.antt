@@ -1,4 +1,10 @@
 -- What program a text spells, or why it spells none, from what its readers answered.
+use Rattle.std.proofs.lemmas.List.{length-map}
+use Rattle.elastic_ast.specs.Seen.{seen_decl}
+use Rattle.spelling.specs.Words.{word_of}
+use Rattle.p4_parser.proofs.FewDeclarations.{few_declarations}
+use Rattle.width_check.specs.Broken.{most_declarations}
+use Rattle.p4all_top.specs.Limits.{most_source}
 use Rattle.std.proofs.Common.{◌≡◌, ℕ, ◌≤◌, true, false, List, [], ◌∷◌, length, Some, refl, sym, ap, ◌∙◌, subst, true≢false, arith, inl, inr}
 use Rattle.std.specs.Prelude.{◌⊎◌, Result, Ok, Err, All}
 use Rattle.std.specs.List.{list_all}
@@ -9,7 +15,7 @@ use Rattle.elastic_ast.specs.declared.declarations.Decl.{Decl}
 use Rattle.elastic_ast.specs.declared.declarations.Program.{Program}
 use Rattle.elastic_ast.specs.Seen.{seen_decls, seen_program}
 use Rattle.elastic_ast.specs.Tree.{PlainDecl, PlainProgram}
-use Rattle.elastic_ast.specs.Typed.{Typed}
+use Rattle.elastic_ast.specs.Typing.Typed.{Typed}
 use Rattle.p4_lexer.specs.declared.token.Token.{Token}
 use Rattle.p4_lexer.specs.Tokens.{TokensOf}
 use Rattle.p4_lexer.proofs.OneReading.{one_list, bad_has_none}
@@ -24,20 +30,20 @@ use Rattle.spelling.specs.Reading.{IsReadWithin, NamesAtMost}
 use Rattle.spelling.specs.Words.{words}
 use Rattle.width_check.specs.declared.checking.CheckError.{CheckError}
 use Rattle.width_check.specs.declared.checking.CheckError.TheVariants as checked
-use Rattle.width_check.specs.Begun.{is_begun, HasOther}
+use Rattle.width_check.specs.Supported.{is_supported, HasOther}
 use Rattle.width_check.specs.Broken.{IsBroken}
-use Rattle.p4all_top.specs.declared.reading.Refusal.{Refusal}
-use Rattle.p4all_top.specs.declared.reading.Refusal.TheVariants as refusal
+use Rattle.p4all_top.specs.declared.parsing.Refusal.{Refusal}
+use Rattle.p4all_top.specs.declared.parsing.Refusal.TheVariants as refusal
 use Rattle.p4all_top.specs.Refusing.{parser_refusal, check_refusal}
 use Rattle.p4all_top.specs.Source.{HasNoProgram, IsOnlyProgram, IsNoSource, IsRefusedBy, IsSourceRefused}
 
 abbrev OnlyReads : List ℕ → List Token → Result Program SyntaxError → Type 0
-OnlyReads text given result = (more : ℕ) (program : PlainProgram) → SpellsProgram more program (words text given) → IsReadWithin ((more ≤ 80) × ProgramHasFew program) seen_program program result
+OnlyReads text given result = (more : ℕ) (program : PlainProgram) → SpellsProgram more program (words text given) → IsReadWithin ((more ≤ most_brackets) × ProgramHasFew program) seen_program program result
 
 -- a program of the text is spelled by its tokens
-spelled_by : (text : List ℕ) (tokens given : List Token) (program : PlainProgram) → TokensOf text tokens → given ≡ tokens → IsProgramOf text program → SpellsProgram 80 program (words text given)
+spelled_by : (text : List ℕ) (tokens given : List Token) (program : PlainProgram) → TokensOf text tokens → given ≡ tokens → IsProgramOf text program → SpellsProgram most_brackets program (words text given)
 spelled_by text tokens given program of e spells =
-    subst (λ (z : List Token). SpellsProgram 80 program (words text z)) (one_list text spells.tokens tokens spells.tokens_are of ∙ sym e) spells.spelled
+    subst (λ (z : List Token). SpellsProgram most_brackets program (words text z)) (one_list text spells.tokens tokens spells.tokens_are of ∙ sym e) spells.spelled
 
 -- where the tokens spell nothing
 pub refused_tree : (text : List ℕ) (tokens given : List Token) (error : SyntaxError) (why : Refusal) → TokensOf text tokens → given ≡ tokens → OnlyReads text given (Err error) → NamesAtMost (length given) error → IfTooDeepAt (PassedAt (ProgramPassed most_brackets) text given 0) error → parser_refusal error ≡ Some why
@@ -56,7 +62,7 @@ refused_tree text tokens given (parsed.TooDeep token) why of e only named deep i
       tokens = given;
       tokens_are = subst (λ (z : List Token). TokensOf text z) (sym e) of;
       passed = deep;
-      none = λ program spells. only 80 program (spelled_by text tokens given program of e spells) (omega arith, spells.few);
+      none = λ program spells. only most_brackets program (spelled_by text tokens given program of e spells) (omega arith, spells.few);
     }
 refused_tree text tokens given parsed.Memory why of e only named deep is = absurd (cc is)
 
@@ -65,20 +71,29 @@ pub record IsParsed (text : List ℕ) (tokens given : List Token) (tree : Progra
   pub of : TokensOf text tokens
   pub same : given ≡ tokens
   pub only : OnlyReads text given (Ok tree)
-  pub spelled : SpellsProgram 80 (seen_program tree) (words text given)
+  pub spelled : SpellsProgram most_brackets (seen_program tree) (words text given)
   pub few : ProgramHasFew (seen_program tree)
+
+-- the parser gives no more declarations than the checker takes
+pub few_parsed : (text : List ℕ) (tokens given : List Token) (tree : Program) → IsParsed text tokens given tree → length text ≤ most_source → length tokens ≤ length text → length tree.decls ≤ most_declarations
+few_parsed text tokens given tree read short fewer =
+    let many = few_declarations most_brackets (seen_program tree) (words text given) read.spelled in
+    let seen : length (seen_program tree) ≡ length tree.decls = length-map tree.decls seen_decl in
+    let worded : length (words text given) ≡ length given = length-map given (word_of text) in
+    let same : length given ≡ length tokens = ap length read.same in
+    omega (arith, many, seen, worded, same, short, fewer)
 
 program_is : (text : List ℕ) (tokens given : List Token) (tree : Program) → IsParsed text tokens given tree → IsProgramOf text (seen_program tree)
 program_is text tokens given tree read = record {
   tokens = tokens;
   tokens_are = read.of;
-  spelled = subst (λ (z : List Token). SpellsProgram 80 (seen_program tree) (words text z)) read.same read.spelled;
+  spelled = subst (λ (z : List Token). SpellsProgram most_brackets (seen_program tree) (words text z)) read.same read.spelled;
   few = read.few;
 }
 
 -- all that a program of the text can be
 same_tree : (text : List ℕ) (tokens given : List Token) (tree : Program) (program : PlainProgram) → IsParsed text tokens given tree → IsProgramOf text program → program ≡ seen_program tree
-same_tree text tokens given tree program read spells = sym (read.only 80 program (spelled_by text tokens given program read.of read.same spells))
+same_tree text tokens given tree program read spells = sym (read.only most_brackets program (spelled_by text tokens given program read.of read.same spells))
 
 -- where the program isn't taken
 pub refused_program : (text : List ℕ) (tokens given : List Token) (tree : Program) (error : CheckError) (why : Refusal) → IsParsed text tokens given tree → IsBroken false (seen_program tree) error → check_refusal error ≡ Some why → IsRefusedBy text why
@@ -100,29 +115,29 @@ refused_program text tokens given tree checked.NotYet why read broken is =
     }
 refused_program text tokens given tree checked.Memory why read broken is = absurd (cc is)
 
-all_begun : (decls : List PlainDecl) → list_all is_begun decls ≡ true → All (λ decl. is_begun decl ≡ true) decls
-all_begun [] h = All-nil (λ decl. is_begun decl ≡ true)
-all_begun (decl ∷ decls) h = let both = and_parts (is_begun decl) (list_all is_begun decls) h in All-cons (λ decl. is_begun decl ≡ true) decl decls both.0 (all_begun decls both.1)
+all_supported : (decls : List PlainDecl) → list_all is_supported decls ≡ true → All (λ decl. is_supported decl ≡ true) decls
+all_supported [] h = All-nil (λ decl. is_supported decl ≡ true)
+all_supported (decl ∷ decls) h = let both = and_parts (is_supported decl) (list_all is_supported decls) h in All-cons (λ decl. is_supported decl ≡ true) decl decls both.0 (all_supported decls both.1)
 
 -- where it is
-pub only_program : (text : List ℕ) (tokens given : List Token) (tree : Program) (taken : List Decl) → IsParsed text tokens given tree → taken ≡ tree.decls → Typed false (seen_program tree) → list_all is_begun (seen_decls taken) ≡ true
+pub only_program : (text : List ℕ) (tokens given : List Token) (tree : Program) (taken : List Decl) → IsParsed text tokens given tree → taken ≡ tree.decls → Typed false (seen_program tree) → list_all is_supported (seen_decls taken) ≡ true
     → IsOnlyProgram text (seen_decls taken)
-only_program text tokens given tree taken read same typed begun =
+only_program text tokens given tree taken read same typed supported =
     subst (λ (z : List Decl). IsOnlyProgram text (seen_decls z)) (sym same) record {
       program = record {
         spelled = program_is text tokens given tree read;
-        begun = all_begun (seen_program tree) (ap (λ (z : List Decl). list_all is_begun (seen_decls z)) (sym same) ∙ begun);
+        supported = all_supported (seen_program tree) (ap (λ (z : List Decl). list_all is_supported (seen_decls z)) (sym same) ∙ supported);
         typed = typed;
       };
       only = λ other program. same_tree text tokens given tree other read program.spelled;
     }
 
 -- a program without other declarations has none
-no_other : (decls : List PlainDecl) → All (λ decl. is_begun decl ≡ true) decls → HasOther decls → ⊥
-no_other decls begun (number, decl, there, other) =
-    let is : is_begun decl ≡ true =
-    subst (λ (z : PlainDecl). is_begun z ≡ true) (get_or_from_slice_get decls number decl decl there)
-    (All-get_or (λ decl. is_begun decl ≡ true) decls number decl (slice_get_within decls number decl there) begun) in
+no_other : (decls : List PlainDecl) → All (λ decl. is_supported decl ≡ true) decls → HasOther decls → ⊥
+no_other decls supported (number, decl, there, other) =
+    let is : is_supported decl ≡ true =
+    subst (λ (z : PlainDecl). is_supported z ≡ true) (get_or_from_slice_get decls number decl decl there)
+    (All-get_or (λ decl. is_supported decl ≡ true) decls number decl (slice_get_within decls number decl there) supported) in
     true≢false (sym is ∙ other)
 
 -- a text that is refused has no program
@@ -132,7 +147,7 @@ refused_has_none text refusal.LongTarget bad decls program = bad
 refused_has_none text (refusal.Byte at) bad decls program = bad_has_none text at bad.0 program.spelled.tokens program.spelled.tokens_are
 refused_has_none text (refusal.Number at) bad decls program = bad_has_none text at bad.0 program.spelled.tokens program.spelled.tokens_are
 refused_has_none text (refusal.Comment at) bad decls program = bad_has_none text at bad.0 program.spelled.tokens program.spelled.tokens_are
-refused_has_none text (refusal.Syntax token) bad decls program = bad.none 80 decls (spelled_by text bad.tokens bad.tokens decls bad.tokens_are refl program.spelled)
+refused_has_none text (refusal.Syntax token) bad decls program = bad.none most_brackets decls (spelled_by text bad.tokens bad.tokens decls bad.tokens_are refl program.spelled)
 refused_has_none text (refusal.Deep token) bad decls program = bad.none decls program.spelled
 refused_has_none text refusal.NotYet bad decls program = by bad.not_taken
   where
@@ -140,7 +155,7 @@ refused_has_none text refusal.NotYet bad decls program = by bad.not_taken
     same = bad.only decls program.spelled
 
     by : HasOther bad.program ⊎ (Typed false bad.program → ⊥) → ⊥
-    by (inl other) = no_other bad.program (subst (λ (z : PlainProgram). All (λ decl. is_begun decl ≡ true) z) same program.begun) other
+    by (inl other) = no_other bad.program (subst (λ (z : PlainProgram). All (λ decl. is_supported decl ≡ true) z) same program.supported) other
     by (inr untyped) = untyped (subst (λ (z : PlainProgram). Typed false z) same program.typed)
 
 -- a source that is refused isn't taken

@@ -1,15 +1,18 @@
--- How a run of `size` must end on a source and a target's description, unless want of memory or a fault ends it; this
+-- How a run of a command must end, by what the files that it reads hold, unless want of memory or a fault ends it; this
 -- project's own.
-use Rattle.std.specs.Prelude.{◌≡◌, ◌≤◌, ℕ, List, length}
+use Rattle.std.specs.Prelude.{◌≡◌, ◌≤◌, ℕ, List, [], ◌∷◌, length}
 use Rattle.elastic_ast.specs.declared.flat.At.{At}
 use Rattle.elastic_ast.specs.Tree.{PlainProgram}
 use Rattle.target_desc.specs.declared.target.Target.{Target}
 use Rattle.p4all_top.specs.declared.status.Status.{Status}
 use Rattle.p4all_top.specs.declared.status.Status.TheVariants as status
-use Rattle.p4all_top.specs.Choice.{IsBounded, IsTooLarge, IsUnbounded}
+use Rattle.box_listing.specs.Choice.{IsBounded, IsTooLarge}
+use Rattle.unroll_bound.specs.ProgramBounds.{IsUnbounded}
+use Rattle.p4all_top.specs.Command.{Command, Size}
 use Rattle.p4all_top.specs.Description.{IsDescription, IsNoDescription}
-use Rattle.p4all_top.specs.Feasible.{Feasible}
-use Rattle.p4all_top.specs.Optimum.{Infeasible}
+use Rattle.dep_graph.specs.Feasible.{Feasible}
+use Rattle.p4all_top.specs.Limits.{most_source}
+use Rattle.dep_graph.specs.Optimum.{Infeasible}
 use Rattle.p4all_top.specs.Source.{IsProgram, IsNoSource}
 
 -- a run ends so, or for want of memory or by a fault
@@ -29,4 +32,9 @@ pub record EndsOn (decls : PlainProgram) (on : Target) (ended : Status) : Type 0
 pub record EndsBy (source target : List ℕ) (ended : Status) : Type 0 where
   pub no_source : IsNoSource source → MustEnd status.Refused ended
   pub no_target : IsNoDescription target → MustEnd status.Refused ended
-  pub both : (decls : PlainProgram) (on : Target) → length source ≤ 16777216 → IsProgram source decls → IsDescription target on → EndsOn decls on ended
+  pub both : (decls : PlainProgram) (on : Target) → length source ≤ most_source → IsProgram source decls → IsDescription target on → EndsOn decls on ended
+
+-- the same of each command
+abbrev pub MustEndOn : Command → List (List ℕ) → Status → Type 0
+MustEndOn (Size _ _) (source ∷ target ∷ []) ended = EndsBy source target ended
+MustEndOn (Size _ _) _ ended = ⊥

@@ -6,8 +6,8 @@ use Rattle.spelling.specs.declared.error.SyntaxError.{SyntaxError}
 use Rattle.spelling.specs.declared.error.SyntaxError.TheVariants as parsed
 use Rattle.width_check.specs.declared.checking.CheckError.{CheckError}
 use Rattle.width_check.specs.declared.checking.CheckError.TheVariants as checked
-use Rattle.p4all_top.specs.declared.reading.Refusal.{Refusal}
-use Rattle.p4all_top.specs.declared.reading.Refusal.TheVariants as refusal
+use Rattle.p4all_top.specs.declared.parsing.Refusal.{Refusal}
+use Rattle.p4all_top.specs.declared.parsing.Refusal.TheVariants as refusal
 
 abbrev pub lexer_refusal : LexError → Option Refusal
 lexer_refusal (lexed.BadByte at) = Some (refusal.Byte at)

@@ -4,7 +4,7 @@ use Rattle.std.specs.Prelude.{◌≡◌, ◌<◌, ◌≤◌, ◌⊎◌, ℕ, Lis
 use Rattle.elastic_ast.specs.declared.declarations.Decl.{Decl}
 use Rattle.elastic_ast.specs.Seen.{seen_decls}
 use Rattle.elastic_ast.specs.Tree.{PlainProgram}
-use Rattle.elastic_ast.specs.Typed.{Typed}
+use Rattle.elastic_ast.specs.Typing.Typed.{Typed}
 use Rattle.p4_lexer.specs.declared.token.LexError.TheVariants as lexed
 use Rattle.p4_lexer.specs.declared.token.Token.{Token}
 use Rattle.p4_lexer.specs.BadPlaces.{IsBad}
@@ -14,15 +14,16 @@ use Rattle.p4_parser.specs.ProgramOf.{IsProgramOf, most_brackets}
 use Rattle.p4_parser.specs.Reaching.{ProgramPassed}
 use Rattle.spelling.specs.Bounds.{PassedAt}
 use Rattle.spelling.specs.Words.{words}
-use Rattle.width_check.specs.Begun.{is_begun, HasOther}
-use Rattle.p4all_top.specs.declared.reading.Refusal.{Refusal}
-use Rattle.p4all_top.specs.declared.reading.Refusal.TheVariants as refusal
+use Rattle.width_check.specs.Supported.{is_supported, HasOther}
+use Rattle.p4all_top.specs.Limits.{most_source}
+use Rattle.p4all_top.specs.declared.parsing.Refusal.{Refusal}
+use Rattle.p4all_top.specs.declared.parsing.Refusal.TheVariants as refusal
 
 -- the text spells this program, which has no declarations but symbols, assume clauses, a linear utility and the metadata, and
 -- it is typed
 pub record IsProgram (text : List ℕ) (decls : PlainProgram) : Type 0 where
   pub spelled : IsProgramOf text decls
-  pub begun : All (λ decl. is_begun decl ≡ true) decls
+  pub supported : All (λ decl. is_supported decl ≡ true) decls
   pub typed : Typed false decls
 
 -- the text spells this typed program, and no other
@@ -73,19 +74,19 @@ abbrev pub IsProgramFound : List ℕ → Result (List Decl) Refusal → Type 0
 IsProgramFound text (Ok decls) = IsOnlyProgram text (seen_decls decls)
 IsProgramFound text (Err cause) = IsRefusedBy text cause
 
--- a source is taken: it is no longer than 16777216 bytes, and spells this program
+-- a source is taken: it is no longer than `most_source` bytes, and spells this program
 pub record IsSource (text : List ℕ) (decls : PlainProgram) : Type 0 where
-  pub short : length text ≤ 16777216
+  pub short : length text ≤ most_source
   pub program : IsOnlyProgram text decls
 
 -- a source isn't taken: it is too long, or spells no typed program
 abbrev pub IsNoSource : List ℕ → Type 0
-IsNoSource text = (16777216 < length text) ⊎ HasNoProgram text
+IsNoSource text = (most_source < length text) ⊎ HasNoProgram text
 
 -- why a source isn't taken
 abbrev pub IsSourceRefused : List ℕ → Refusal → Type 0
-IsSourceRefused text refusal.LongSource = 16777216 < length text
-IsSourceRefused text cause = (length text ≤ 16777216) × IsRefusedBy text cause
+IsSourceRefused text refusal.LongSource = most_source < length text
+IsSourceRefused text cause = (length text ≤ most_source) × IsRefusedBy text cause
 
 -- what is found in a source: its program, or why it isn't taken
 abbrev pub IsSourceFound : List ℕ → Result (List Decl) Refusal → Type 0

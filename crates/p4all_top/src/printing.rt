@@ -1,9 +1,9 @@
-//! The lines that `size` prints.
+//! The lines that the commands print.
 
 ghost use Rattle.std.specs.Prelude.{◌≡◌, ◌≤◌, length, IfOk, OnOk};
-ghost use Rattle.p4all_top.specs.Answer.{with_size, with_utility, sizes_text, infeasible_text, unbounded_text, notyet_text, long_text, source_text, refusal_text};
+ghost use Rattle.p4all_top.specs.Printed.{with_size, with_utility, sizes_text, infeasible_text, unbounded_text, notyet_text, begun_refusal, refused_text, source_text, refusal_text};
 
-use crate::reading::Refusal;
+use crate::parsing::Refusal;
 use elx_bits::Name;
 use elx_io::Lines;
 use std::alloc::{AllocError, Global};
@@ -59,12 +59,7 @@ pub fn infeasible_line(alloc: Global) -> Result<Lines, AllocError>
 pub fn unbounded_line(alloc: Global, symbol: &Name) -> Result<Lines, AllocError>
     ensures { IfOk result (λ lines. lines ≡ unbounded_text symbol.now) }
 {
-    let mut lines = Lines::new(alloc);
-    lines.word(b"refused")?;
-    lines.word(b"unbounded")?;
-    lines.word(symbol.as_slice())?;
-    lines.end()?;
-    Ok(lines)
+    refused_line(alloc, b"unbounded", symbol.as_slice())
 }
 
 /// The line that refuses a source or a target's description.
@@ -72,8 +67,8 @@ pub fn refusal_line(alloc: Global, refusal: Refusal) -> Result<Lines, AllocError
     ensures { IfOk result (λ lines. lines ≡ refusal_text refusal) }
 {
     match refusal {
-        Refusal::LongSource => long_line(alloc, b"src"),
-        Refusal::LongTarget => long_line(alloc, b"target"),
+        Refusal::LongSource => refused_line(alloc, b"long", b"src"),
+        Refusal::LongTarget => refused_line(alloc, b"long", b"target"),
         Refusal::Byte { at } => source_line(alloc, b"byte", at),
         Refusal::Number { at } => source_line(alloc, b"number", at),
         Refusal::Comment { at } => source_line(alloc, b"comment", at),
@@ -83,14 +78,22 @@ pub fn refusal_line(alloc: Global, refusal: Refusal) -> Result<Lines, AllocError
     }
 }
 
-/// The line that refuses a file that is too long.
-fn long_line(alloc: Global, file: &[u8]) -> Result<Lines, AllocError>
-    ensures { IfOk result (λ lines. lines ≡ long_text file.now) }
+/// The begin of a line that refuses something.
+fn refusal_begun(alloc: Global, what: &[u8]) -> Result<Lines, AllocError>
+    ensures { IfOk result (λ lines. lines ≡ begun_refusal what.now) }
 {
     let mut lines = Lines::new(alloc);
     lines.word(b"refused")?;
-    lines.word(b"long")?;
-    lines.word(file)?;
+    lines.word(what)?;
+    Ok(lines)
+}
+
+/// The line that refuses something for what is named.
+fn refused_line(alloc: Global, why: &[u8], named: &[u8]) -> Result<Lines, AllocError>
+    ensures { IfOk result (λ lines. lines ≡ refused_text why.now named.now) }
+{
+    let mut lines = refusal_begun(alloc, why)?;
+    lines.word(named)?;
     lines.end()?;
     Ok(lines)
 }
@@ -99,9 +102,7 @@ fn long_line(alloc: Global, file: &[u8]) -> Result<Lines, AllocError>
 fn source_line(alloc: Global, cause: &[u8], place: u32) -> Result<Lines, AllocError>
     ensures { IfOk result (λ lines. lines ≡ source_text cause.now place) }
 {
-    let mut lines = Lines::new(alloc);
-    lines.word(b"refused")?;
-    lines.word(b"src")?;
+    let mut lines = refusal_begun(alloc, b"src")?;
     lines.word(cause)?;
     lines.number(i128::from(place))?;
     lines.end()?;
@@ -112,9 +113,7 @@ fn source_line(alloc: Global, cause: &[u8], place: u32) -> Result<Lines, AllocEr
 fn notyet_line(alloc: Global) -> Result<Lines, AllocError>
     ensures { IfOk result (λ lines. lines ≡ notyet_text) }
 {
-    let mut lines = Lines::new(alloc);
-    lines.word(b"refused")?;
-    lines.word(b"notyet")?;
+    let mut lines = refusal_begun(alloc, b"notyet")?;
     lines.end()?;
     Ok(lines)
 }

@@ -1,113 +1,82 @@
-//! The program that a source spells, the target that a text describes, and why there is none.
+//! Reading a file, a source and a target's description.
 
-ghost use Rattle.std.specs.Prelude.{◌≡◌, ◌≤◌, length, IfOk, IfSome, Some};
+ghost use Rattle.std.specs.Prelude.{◌≡◌, ◌∷◌, [], ◌≤◌, ◌^◌, length, IfOk, IfSome};
+ghost use Rattle.elx_io.specs.Appends.{Appends};
+ghost use Rattle.elx_io.specs.Call.{Read};
 ghost use Rattle.target_desc.specs.InRange.{IsInRange};
-ghost use Rattle.p4all_top.specs.Description.{IsTargetFound};
-ghost use Rattle.p4all_top.specs.Refusing.{lexer_refusal, parser_refusal, check_refusal};
-ghost use Rattle.p4all_top.specs.Source.{IsProgramFound};
+ghost use Rattle.p4all_top.specs.Description.{IsDescriptionFound};
+ghost use Rattle.p4all_top.specs.Reading.{IsFileRead, IsOfFile};
+ghost use Rattle.p4all_top.specs.Source.{IsSourceFound};
+ghost use Rattle.p4all_top.specs.Stopping.{StopCounts};
 
-use p4_lexer::{LexError, lex};
-use p4_parser::parse;
-use spelling::SyntaxError;
-use std::alloc::{AllocError, Global};
-use target_desc::{Target, TargetError};
-use width_check::{CheckError, Checked, check, program};
-
-/// Why a source or a target's description isn't taken. Places in the source are in bytes, and tokens of it are numbered; both
-/// count from 0.
-#[derive(Clone, Copy, Debug, PartialEq, Eq)]
-pub enum Refusal {
-    /// The source has more than `MOST_SOURCE` bytes.
-    LongSource,
-    /// The description has more than `MOST_TARGET` bytes.
-    LongTarget,
-    /// No token, space or comment of the source begins with the byte there.
-    Byte { at: u32 },
-    /// The number there in the source has a wrong form, width or size.
-    Number { at: u32 },
-    /// The `/*` there in the source has no end.
-    Comment { at: u32 },
-    /// The source is no program. The reading stopped at this token, or at the end of the tokens.
-    Syntax { token: u32 },
-    /// This token of the source passes the number of brackets that may be open, or that of operators of an expression.
-    Deep { token: u32 },
-    /// The source has other declarations than those that are taken so far, or isn't typed; or the text describes no target.
-    NotYet,
-}
+use crate::parsing::{Refusal, program_of, target_of};
+use crate::stopping::Stop;
+use elx_bits::Items;
+use elx_io::Shelf;
+use std::alloc::Global;
+use target_desc::Target;
+use width_check::Checked;
 
 /// The most bytes of a source.
-pub const MOST_SOURCE: u64 = 16_777_216;
+const MOST_SOURCE: u64 = 16_777_216;
 
 /// The most bytes of a target's description.
-pub const MOST_TARGET: u64 = 65_536;
+const MOST_TARGET: u64 = 65_536;
 
-/// The most brackets that are open at one token.
-const MOST_DEPTH: u32 = 80;
-
-/// The typed program that a text spells, or why it spells none.
-pub fn program_of(alloc: Global, text: &[u8]) -> Result<Result<Checked, Refusal>, AllocError>
-    requires { length text.now ≤ 16777216 }
-    ensures { IfOk result (IsProgramFound text.now) }
+/// The bytes of a file, or None where it has more than `most`.
+fn read_file<S: Shelf>(
+    alloc: Global,
+    shelf: &mut S,
+    name: &str,
+    most: u64,
+) -> Result<Option<Items<u8>>, Stop>
+    requires { most ≤ 2 ^ 62 }
+    ensures found { IfOk result (λ found.
+        IsOfFile (S.holds shelf.old) name.now (λ bytes. IsFileRead most bytes found)) }
+    ensures kept { S.holds shelf.new ≡ S.holds shelf.old }
+    ensures call { Appends (Read name.now ∷ []) (S.told shelf.old) (S.told shelf.new) }
+    ensures counts { StopCounts (S.faults shelf.old) (S.faults shelf.new) result }
 {
-    let tokens = match lex(alloc, text) {
-        Ok(tokens) => tokens,
-        Err(error) => return Ok(Err(refused_by_lexer(error)?)),
+    let bytes = shelf.read(alloc, name, most)?;
+    if bytes.as_slice().len() as u64 > most {
+        return Ok(None);
+    }
+    Ok(Some(bytes))
+}
+
+/// The program of a source, or why the source isn't taken.
+pub fn read_source<S: Shelf>(
+    alloc: Global,
+    shelf: &mut S,
+    name: &str,
+) -> Result<Result<Checked, Refusal>, Stop>
+    ensures found { IfOk result (λ found.
+        IsOfFile (S.holds shelf.old) name.now (λ text. IsSourceFound text found)) }
+    ensures kept { S.holds shelf.new ≡ S.holds shelf.old }
+    ensures call { Appends (Read name.now ∷ []) (S.told shelf.old) (S.told shelf.new) }
+    ensures counts { StopCounts (S.faults shelf.old) (S.faults shelf.new) result }
+{
+    let Some(bytes) = read_file(alloc, shelf, name, MOST_SOURCE)? else {
+        return Ok(Err(Refusal::LongSource));
     };
-    let parsed = match parse(alloc, text, tokens.as_slice(), MOST_DEPTH) {
-        Ok(parsed) => parsed,
-        Err(error) => return Ok(Err(refused_by_parser(error)?)),
+    Ok(program_of(alloc, bytes.as_slice())?)
+}
+
+/// The target of a description, or why the description isn't taken.
+pub fn read_target<S: Shelf>(
+    alloc: Global,
+    shelf: &mut S,
+    name: &str,
+) -> Result<Result<Target, Refusal>, Stop>
+    ensures found { IfOk result (λ found.
+        IsOfFile (S.holds shelf.old) name.now (λ text. IsDescriptionFound text found)) }
+    ensures in_range { IfOk result (λ found. IfOk found IsInRange) }
+    ensures kept { S.holds shelf.new ≡ S.holds shelf.old }
+    ensures call { Appends (Read name.now ∷ []) (S.told shelf.old) (S.told shelf.new) }
+    ensures counts { StopCounts (S.faults shelf.old) (S.faults shelf.new) result }
+{
+    let Some(bytes) = read_file(alloc, shelf, name, MOST_TARGET)? else {
+        return Ok(Err(Refusal::LongTarget));
     };
-    match check(alloc, parsed, false) {
-        Ok(checked) => {
-            // The declarations of what was checked are of the forms that are taken.
-            let _ = program(&checked);
-            Ok(Ok(checked))
-        }
-        Err(error) => Ok(Err(refused_by_check(error)?)),
-    }
-}
-
-/// The refusal of a text by the lexer.
-fn refused_by_lexer(error: LexError) -> Result<Refusal, AllocError>
-    ensures { IfOk result (λ refusal. lexer_refusal error ≡ Some refusal) }
-{
-    match error {
-        LexError::BadByte { at } => Ok(Refusal::Byte { at }),
-        LexError::BadNumber { at } => Ok(Refusal::Number { at }),
-        LexError::OpenComment { at } => Ok(Refusal::Comment { at }),
-        LexError::Memory => Err(AllocError),
-    }
-}
-
-/// The refusal of tokens by the parser.
-fn refused_by_parser(error: SyntaxError) -> Result<Refusal, AllocError>
-    ensures { IfOk result (λ refusal. parser_refusal error ≡ Some refusal) }
-{
-    match error {
-        SyntaxError::NotProgram { token } => Ok(Refusal::Syntax { token }),
-        SyntaxError::TooDeep { token } => Ok(Refusal::Deep { token }),
-        SyntaxError::Memory => Err(AllocError),
-    }
-}
-
-/// The refusal of a program by the check.
-fn refused_by_check(error: CheckError) -> Result<Refusal, AllocError>
-    ensures { IfOk result (λ refusal. check_refusal error ≡ Some refusal) }
-{
-    match error {
-        CheckError::Broken(_) | CheckError::NotYet => Ok(Refusal::NotYet),
-        CheckError::Memory => Err(AllocError),
-    }
-}
-
-/// The target that a text describes, or None where it describes none.
-pub fn target_of(alloc: Global, text: &[u8]) -> Result<Option<Target>, AllocError>
-    ensures found { IfOk result (IsTargetFound text.now) }
-    ensures in_range { IfOk result (λ found. IfSome found IsInRange) }
-{
-    match target_desc::read(alloc, text) {
-        Ok(target) => Ok(Some(target)),
-        Err(TargetError::NotYet) => Ok(None),
-        Err(TargetError::Memory) => Err(AllocError),
-    }
+    Ok(target_of(alloc, bytes.as_slice())?)
 }

@@ -39,7 +39,7 @@ fn run(
 }
 
 /// A source, the header bits of its target, and what `size` ends with and prints.
-const ROWS: [(&str, u32, Status, &str); 12] = [
+const ROWS: [(&str, u32, Status, &str); 21] = [
     (
         ROWS_AND_COLS,
         64,
@@ -97,6 +97,60 @@ const ROWS: [(&str, u32, Status, &str); 12] = [
         64,
         Status::Done,
         "size s 16\nutility -16\n",
+    ),
+    (
+        "symbolic int a; symbolic int b; assume(2*a + 3*b <= 12); maximize(a + 2*b);",
+        20,
+        Status::Done,
+        "size a 0\nsize b 4\nutility 8\n",
+    ),
+    (
+        "symbolic int a; symbolic int b; assume(b <= 1); maximize(5*a + b); struct meta_t { bit<3> x; bit<8>[a] y; }",
+        20,
+        Status::Done,
+        "size a 2\nsize b 1\nutility 11\n",
+    ),
+    (
+        "symbolic int a; symbolic int b; assume(b <= 1); maximize(5*a + b); struct meta_t { bit<5> x; bit<8>[a] y; }",
+        20,
+        Status::Done,
+        "size a 1\nsize b 1\nutility 6\n",
+    ),
+    (
+        "symbolic int a; symbolic int b; assume(a + b == 3); maximize(a);",
+        20,
+        Status::Done,
+        "size a 3\nsize b 0\nutility 3\n",
+    ),
+    (
+        "symbolic int a; symbolic int b; assume(a <= 999 && b < 1000); maximize(a + 2*b);",
+        20,
+        Status::Done,
+        "size a 999\nsize b 999\nutility 2997\n",
+    ),
+    (
+        "symbolic int a; symbolic int b; assume(a <= 1000 && b < 1000); maximize(a);",
+        20,
+        Status::Refused,
+        "refused notyet\n",
+    ),
+    (
+        "symbolic int a; symbolic int b; assume(a <= 3); maximize(a);",
+        20,
+        Status::Refused,
+        "refused unbounded b\n",
+    ),
+    (
+        "symbolic int a; symbolic int b; assume(a + b <= 4); assume(a >= 5); maximize(a);",
+        20,
+        Status::Infeasible,
+        "infeasible\n",
+    ),
+    (
+        "symbolic int a; symbolic int b; assume(a + b < 0); maximize(a);",
+        20,
+        Status::Infeasible,
+        "infeasible\n",
     ),
 ];
 

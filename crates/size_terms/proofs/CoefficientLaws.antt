@@ -13,8 +13,8 @@ use Rattle.elastic_ast.specs.declared.declarations.Rel.{Rel}
 use Rattle.elastic_ast.specs.declared.declarations.Rel.TheVariants as rel
 use Rattle.elastic_ast.specs.declared.flat.Linear.{Linear}
 use Rattle.elastic_ast.specs.Tree.{Name, PlainDecl}
-use Rattle.elastic_ast.specs.Scope.{same}
-use Rattle.elastic_ast.specs.Sums.{signed, size_of, count_of, term_value, sum_value, Compares, Holds, symbols_of, comparisons, Compared}
+use Rattle.elastic_ast.specs.Typing.Scope.{same}
+use Rattle.elastic_ast.specs.Sizes.SizeSums.{signed, size_of, count_of, term_value, sum_value, Compares, Holds, symbols_of, comparisons, Compared}
 use Rattle.size_terms.specs.Rows.{dot, RowHolds, RowsHold}
 use Rattle.size_terms.specs.Coefficients.{number_at, symbol_number, lone_number, coefficient, constant_of, row_below, compared_rows, rows_of_comp, rows_of}
 use Rattle.size_terms.proofs.SumLaws.{within_from}

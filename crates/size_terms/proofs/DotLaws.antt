@@ -1,11 +1,11 @@
 -- Sums of products: of lists of coefficients that are added, negated or equal at all sizes, and of coefficients that aren't
 -- negative.
-use Rattle.std.proofs.Common.{◌≡◌, ℕ, zero, suc, ◌<◌, Bool, true, false, List, [], ◌∷◌, length, map, get_or, refl, sym, ap, ◌∙◌, true≢false, arith, ℤ, pos, negsuc, ◌+ℤ◌, ◌*ℤ◌, neg_ℤ}
+use Rattle.std.proofs.Common.{◌≡◌, ℕ, zero, suc, Bool, true, false, List, [], ◌∷◌, length, map, get_or, refl, sym, ap, ◌∙◌, true≢false, arith, ℤ, pos, negsuc, ◌+ℤ◌, ◌*ℤ◌, neg_ℤ}
 use Rattle.std.specs.Prelude.{◌≤ℤ◌}
 use Rattle.std.specs.List.{list_all}
 use Rattle.std.proofs.Math.IntN.{suc_ℤ-*ℤ, zero-*ℤ, *ℤ-zero, pos-*ℤ-pos}
 use Rattle.std.proofs.lemmas.Int.{ints}
-use Rattle.elastic_ast.specs.Sums.{signed}
+use Rattle.elastic_ast.specs.Sizes.SizeSums.{signed}
 use Rattle.size_terms.specs.Rows.{dot, is_whole}
 use Rattle.size_terms.proofs.SumLaws.{times_sum}
 use Rattle.size_terms.proofs.TermLaws.{times_neg}

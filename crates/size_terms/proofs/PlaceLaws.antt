@@ -6,7 +6,7 @@ use Rattle.std.specs.Cmp.Lexicographic.{pointwise, same_text}
 use Rattle.std.specs.Map.{lookup}
 use denote.Bor.{Bor}
 use Rattle.elastic_ast.specs.Tree.{Name}
-use Rattle.elastic_ast.specs.Scope.{same, or_else}
+use Rattle.elastic_ast.specs.Typing.Scope.{same, or_else}
 use Rattle.size_terms.specs.Places.{entered, Enters}
 
 -- a look-up in the map is one among the names

@@ -1,5 +1,6 @@
 -- The rows that are added for comparisons: which they are, and that they are short.
-use Rattle.std.proofs.Common.{◌≡◌, ℕ, ◌+◌, ◌*◌, ◌≤◌, ◌&&◌, Bool, true, false, List, [], ◌∷◌, ◌++◌, map, flat_map, length, refl, sym, ap, subst, ◌∙◌, true≢false, arith, append_assoc, ℤ, pos, ◌+ℤ◌, neg_ℤ}
+use Rattle.std.proofs.lemmas.Bool.{and_parts}
+use Rattle.std.proofs.Common.{◌≡◌, ℕ, ◌+◌, ◌*◌, ◌≤◌, ◌&&◌, true, false, List, [], ◌∷◌, ◌++◌, map, flat_map, length, refl, sym, ap, subst, ◌∙◌, arith, append_assoc, ℤ, pos, ◌+ℤ◌, neg_ℤ}
 use Rattle.std.specs.Prelude.{Result, Ok, Err, OnOk, unsigned_abs, nat_le}
 use Rattle.std.specs.List.{list_all}
 use Rattle.std.proofs.lemmas.Int.{ints}
@@ -14,7 +15,7 @@ use Rattle.elastic_ast.specs.declared.declarations.Rel.{Rel}
 use Rattle.elastic_ast.specs.declared.declarations.Rel.TheVariants as rel
 use Rattle.elastic_ast.specs.declared.flat.Linear.{Linear}
 use Rattle.elastic_ast.specs.Tree.{Name}
-use Rattle.elastic_ast.specs.Sums.{sum_value, signed}
+use Rattle.elastic_ast.specs.Sizes.SizeSums.{sum_value, signed}
 use Rattle.size_terms.specs.declared.sums.Sum.{Sum}
 use Rattle.size_terms.specs.Rows.{dot, weight, IsShort}
 use Rattle.size_terms.specs.Coefficients.{coefficient, constant_of, row_below, compared_rows, rows_of_comp}
@@ -130,16 +131,8 @@ pub on_pushed : {T E P Q : Type 0} (r : Result T E) → OnOk r P → (P → Q) �
 on_pushed (Ok x) h f = f h
 on_pushed (Err e) h f = h
 
-first : (a b : Bool) → (a && b) ≡ true → a ≡ true
-first true b p = refl
-first false b p = p
-
-second : (a b : Bool) → (a && b) ≡ true → b ≡ true
-second true b p = p
-second false b p = absurd (true≢false (sym p))
-
 short_few : (comp : Comp) → is_short comp ≡ true → length comp.left + length comp.right ≤ 64
-short_few comp h = let e : nat_le (length comp.left + length comp.right) 64 ≡ true = first (nat_le (length comp.left + length comp.right) 64) (list_all is_near comp.left && list_all is_near comp.right) h in grind (arith, nat_tests)
+short_few comp h = let e : nat_le (length comp.left + length comp.right) 64 ≡ true = (and_parts (nat_le (length comp.left + length comp.right) 64) (list_all is_near comp.left && list_all is_near comp.right) h).0 in grind (arith, nat_tests)
 
 -- the two sides of a comparison
 pub difference_is : (symbols : List Name) (comp : Comp) (nothing middle sum : Sum) → IsZero nothing (length symbols) → is_short comp ≡ true → Grows nothing middle (λ sizes. signed false (sum_value symbols sizes comp.left)) (1000000000 * length comp.left)

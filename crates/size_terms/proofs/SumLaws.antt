@@ -9,8 +9,8 @@ use Rattle.std.specs.Int.RustNames.{FitsSigned}
 use mir.Val.{to_z, of_z}
 use mir.Syntax.{w128}
 use Rattle.elastic_ast.specs.Tree.{Name}
-use Rattle.elastic_ast.specs.Scope.{same}
-use Rattle.elastic_ast.specs.Sums.{size_of}
+use Rattle.elastic_ast.specs.Typing.Scope.{same}
+use Rattle.elastic_ast.specs.Sizes.SizeSums.{size_of}
 use Rattle.size_terms.specs.Places.{place_of}
 use Rattle.size_terms.specs.declared.sums.Sum.{Sum}
 use Rattle.size_terms.specs.Rows.{dot, weight}

@@ -1,5 +1,6 @@
 -- Sums that grow by one term, by terms, and that turn their sign.
-use Rattle.std.proofs.Common.{◌≡◌, ℕ, zero, suc, ◌+◌, ◌*◌, ◌^◌, ◌<◌, ◌≤◌, ◌&&◌, Bool, true, false, List, [], ◌∷◌, ◌++◌, map, length, drop, get_or, Some, None, refl, sym, ap, subst, ◌∙◌, true≢false, arith, append_assoc, ℤ, pos, negsuc, ◌+ℤ◌, ◌-ℤ◌, ◌*ℤ◌, neg_ℤ}
+use Rattle.std.proofs.lemmas.Bool.{and_parts}
+use Rattle.std.proofs.Common.{◌≡◌, ℕ, zero, suc, ◌+◌, ◌*◌, ◌^◌, ◌<◌, ◌≤◌, Bool, true, false, List, [], ◌∷◌, ◌++◌, map, length, drop, get_or, Some, None, refl, sym, ap, subst, ◌∙◌, arith, append_assoc, ℤ, pos, negsuc, ◌+ℤ◌, ◌-ℤ◌, ◌*ℤ◌, neg_ℤ}
 use Rattle.std.specs.Prelude.{unsigned_abs, replicate}
 use Rattle.std.specs.List.{list_all}
 use Rattle.std.specs.Int.RustNames.{FitsSigned}
@@ -12,7 +13,7 @@ use mir.Val.{to_z, of_z}
 use mir.Syntax.{w128}
 use Rattle.elastic_ast.specs.declared.declarations.LinTerm.{LinTerm}
 use Rattle.elastic_ast.specs.Tree.{Name}
-use Rattle.elastic_ast.specs.Sums.{signed, size_of, count_of, term_value, sum_value}
+use Rattle.elastic_ast.specs.Sizes.SizeSums.{signed, size_of, count_of, term_value, sum_value}
 use Rattle.width_check.proofs.Steps.{items_drop}
 use Rattle.size_terms.specs.declared.sums.Sum.{Sum}
 use Rattle.size_terms.specs.Rows.{dot, weight}
@@ -94,11 +95,7 @@ worth_step symbols sum new terms i t minus sizes whole h e grown inv =
     omega (arith, ints, parts, grown, inv)
 
 pub near_rest : (terms : List LinTerm) (i : ℕ) (t : LinTerm) → i < length terms → t ≡ get_or terms i t → list_all is_near (drop i terms) ≡ true → list_all is_near (drop (i + 1) terms) ≡ true
-near_rest terms i t h e inv = right (is_near t) (list_all is_near (drop (i + 1) terms)) (ap (list_all is_near) (sym (items_drop terms i t h e)) ∙ inv)
-  where
-    right : (a b : Bool) → (a && b) ≡ true → b ≡ true
-    right true b p = p
-    right false b p = absurd (true≢false (sym p))
+near_rest terms i t h e inv = (and_parts (is_near t) (list_all is_near (drop (i + 1) terms)) (ap (list_all is_near) (sym (items_drop terms i t h e)) ∙ inv)).1
 
 -- the sum of nothing
 dot_zeros : (n : ℕ) (zeros : List ℤ) (sizes : List ℕ) → zeros ≡ replicate n (pos 0) → dot zeros sizes ≡ pos 0

@@ -9,7 +9,7 @@ use Rattle.elastic_ast.specs.declared.flat.Linear.{Linear}
 use Rattle.elastic_ast.specs.Tree.{Name}
 use Rattle.elastic_ast.specs.declared.declarations.Rel.{Rel}
 use Rattle.elastic_ast.specs.declared.declarations.Rel.TheVariants as rel
-use Rattle.elastic_ast.specs.Sums.{sum_value, utils_value}
+use Rattle.elastic_ast.specs.Sizes.SizeSums.{sum_value, utils_value}
 use Rattle.size_terms.specs.declared.sums.Sum.{Sum}
 use Rattle.size_terms.specs.Rows.{IsShort}
 use Rattle.size_terms.specs.Coefficients.{rows_of_comp}

@@ -8,7 +8,7 @@ use Rattle.elastic_ast.specs.declared.declarations.Rel.{Rel}
 use Rattle.elastic_ast.specs.declared.declarations.Rel.TheVariants as rel
 use Rattle.elastic_ast.specs.declared.flat.Linear.{Linear}
 use Rattle.elastic_ast.specs.Tree.{Name, PlainDecl}
-use Rattle.elastic_ast.specs.Sums.{signed, symbols_of, comparisons}
+use Rattle.elastic_ast.specs.Sizes.SizeSums.{signed, symbols_of, comparisons}
 use Rattle.size_terms.specs.Places.{place_of}
 
 -- a number at one place, and 0 at every other

@@ -3,3 +3,4 @@ pub mod Places
 pub mod Coefficients
 pub mod Growth
 pub mod Building
+pub mod RowsMean

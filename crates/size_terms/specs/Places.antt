@@ -4,7 +4,7 @@ use Rattle.std.specs.List.{position_from}
 use Rattle.std.specs.Map.{lookup}
 use denote.Bor.{Bor}
 use Rattle.elastic_ast.specs.Tree.{Name}
-use Rattle.elastic_ast.specs.Scope.{same, or_else}
+use Rattle.elastic_ast.specs.Typing.Scope.{same, or_else}
 
 -- the number of the first symbol of a name, counted from 0
 abbrev pub place_of : List Name → Name → Option ℕ

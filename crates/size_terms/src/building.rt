@@ -4,12 +4,13 @@ ghost use Rattle.std.specs.Prelude.{◌≡◌, ◌↔◌, ◌≤◌, ◌++◌, t
 ghost use Rattle.std.specs.List.{list_all};
 ghost use Rattle.elastic_ast.specs.Seen.{seen_decl, seen_decls};
 ghost use Rattle.elastic_ast.specs.Tree.{PlainDecl};
-ghost use Rattle.elastic_ast.specs.Sums.{symbol_name, symbols_of, comps_of as comps_of_decl, comparisons, utility_terms, utility, util_value, Compared, Assumes};
+ghost use Rattle.elastic_ast.specs.Sizes.SizeSums.{symbol_name, symbols_of, comps_of as comps_of_decl, comparisons, utility_terms, utility, util_value, Compared, Assumes};
 ghost use Rattle.width_check.specs.Sound.{IsSound};
 ghost use Rattle.size_terms.specs.Rows.{RowsHold, AreShort, worth};
 ghost use Rattle.size_terms.specs.Coefficients.{rows_of};
 ghost use Rattle.size_terms.specs.Building.{AddsComps, is_short, is_near_util, IsUtility};
 ghost use Rattle.size_terms.specs.Growth.{Grows, bulk};
+ghost use Rattle.size_terms.specs.RowsMean.{RowsSayComparisons};
 
 use crate::comparisons::push_comparison;
 use crate::places::Places;
@@ -156,7 +157,7 @@ pub fn terms(alloc: Global, checked: &Checked) -> Result<Terms, AllocError>
 /// The rows of a program hold at sizes exactly where every comparison is true. It holds of the definitions, and takes no
 /// step.
 pub fn rows_say_comparisons()
-    ensures { (decls : List PlainDecl) (sizes : List ℕ) → RowsHold (rows_of decls) sizes ↔ Compared decls sizes }
+    ensures { RowsSayComparisons }
 {}
 
 /// The rows and the utility of declarations over their symbols.

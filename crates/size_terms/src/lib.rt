@@ -5,8 +5,6 @@ mod building;
 mod comparisons;
 mod places;
 mod sums;
-#[cfg(test)]
-mod tests;
 mod worth;
 
 pub use building::{rows_say_comparisons, terms};

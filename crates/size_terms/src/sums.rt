@@ -3,7 +3,7 @@
 ghost use Rattle.std.specs.Prelude.{◌≡◌, ◌≤◌, ◌<◌, ◌+◌, ◌*◌, ◌^◌, true, pos, ◌*ℤ◌, neg_ℤ, unsigned_abs, length, map, IfOk};
 ghost use Rattle.std.specs.List.{list_all};
 ghost use Rattle.size_terms.specs.Rows.{weight};
-ghost use Rattle.elastic_ast.specs.Sums.{signed, term_value, size_of, sum_value};
+ghost use Rattle.elastic_ast.specs.Sizes.SizeSums.{signed, term_value, size_of, sum_value};
 ghost use Rattle.size_terms.specs.Growth.{Grows, IsZero, Negates, bulk, is_near};
 
 use crate::places::Places;

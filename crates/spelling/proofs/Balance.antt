@@ -157,27 +157,27 @@ stays_commas Of p [] = stays_empty
 stays_commas Of p (x ∷ xs) = stays_separated (Sign (codes ",")) Of (stays_sign (codes ",") refl refl) p (x ∷ xs)
 
 -- an opening sign, words that stay within a depth, and a closing sign stay within one more
-around : {depth : ℕ} {front inside back : List Word} (opening closing : List ℕ) → is_opening opening ≡ true → is_opening closing ≡ false → is_closing closing ≡ true → Sign opening front → Within depth inside → Sign closing back → Within (suc depth) (front ++ (inside ++ back))
-around {depth = depth} {inside = inside} opening closing a b c f p g =
+within_brackets : {depth : ℕ} {front inside back : List Word} (opening closing : List ℕ) → is_opening opening ≡ true → is_opening closing ≡ false → is_closing closing ≡ true → Sign opening front → Within depth inside → Sign closing back → Within (suc depth) (front ++ (inside ++ back))
+within_brackets {depth = depth} {inside = inside} opening closing a b c f p g =
     let o = brackets_within f.word g.word (sign_opens opening f.word f.is_this ∙ a) (sign_opens closing g.word g.is_this ∙ b) (sign_closes closing g.word g.is_this ∙ c) p in
     let whole : (front back : List Word) → front ≡ f.word ∷ [] → back ≡ g.word ∷ [] → Within (suc depth) (front ++ (inside ++ back)) = λ front back h k. subst (λ ws. Within (suc depth) (ws ++ (inside ++ back))) (sym h) (subst (λ ws. Within (suc depth) (f.word ∷ (inside ++ ws))) (sym k) o) in
     whole _ _ f.alone g.alone
 
 pub enclosed : {depth : ℕ} {front inside back : List Word} (opening closing : List ℕ) → is_opening opening ≡ true → is_opening closing ≡ false → is_closing closing ≡ true → Sign opening front → Within depth inside → Sign closing back → Within (suc depth) (front ++ inside ++ back)
-enclosed {depth = depth} {front = front} {inside = inside} {back = back} opening closing a b c f p g = subst (Within (suc depth)) (sym (append_assoc front inside back)) (around opening closing a b c f p g)
+enclosed {depth = depth} {front = front} {inside = inside} {back = back} opening closing a b c f p g = subst (Within (suc depth)) (sym (append_assoc front inside back)) (within_brackets opening closing a b c f p g)
 
 -- the same after words that stay within that depth
 pub enclosed_after : {depth : ℕ} {name front inside back : List Word} (opening closing : List ℕ) → is_opening opening ≡ true → is_opening closing ≡ false → is_closing closing ≡ true → Within (suc depth) name → Sign opening front → Within depth inside → Sign closing back → Within (suc depth) (name ++ front ++ inside ++ back)
 enclosed_after {depth = depth} {name = name} {front = front} {inside = inside} {back = back} opening closing a b c n f p g =
     let e : name ++ front ++ inside ++ back ≡ name ++ (front ++ (inside ++ back)) = append_assoc (name ++ front) inside back ∙ append_assoc name front (inside ++ back) in
-    subst (Within (suc depth)) (sym e) (both_within n (around opening closing a b c f p g))
+    subst (Within (suc depth)) (sym e) (both_within n (within_brackets opening closing a b c f p g))
 
 pub stays_bracketed : (opening closing : List ℕ) (depth : ℕ) (Between : ℕ → Grammar) → is_opening opening ≡ true → is_opening closing ≡ false → is_closing closing ≡ true → ((inner : ℕ) → Stays inner (Between inner)) → Stays depth (Bracketed opening closing depth Between)
 stays_bracketed opening closing zero Between a b c p ws h = absurd h
 stays_bracketed opening closing (suc depth) Between a b c p ws h =
     let s = h.second in
     let e : ws ≡ h.front ++ (s.front ++ s.back) = h.joined ∙ ap (λ l. h.front ++ l) s.joined in
-    subst (Within (suc depth)) (sym e) (around opening closing a b c h.first (p depth s.front s.first) s.second)
+    subst (Within (suc depth)) (sym e) (within_brackets opening closing a b c h.first (p depth s.front s.first) s.second)
 
 pub stays_round : (depth : ℕ) (Between : ℕ → Grammar) → ((inner : ℕ) → Stays inner (Between inner)) → Stays depth (Bracketed (codes "(") (codes ")") depth Between)
 stays_round depth Between = stays_bracketed (codes "(") (codes ")") depth Between refl refl refl

@@ -8,3 +8,7 @@ pub mod Exactly
 pub mod Limits
 pub mod Peeling
 pub mod Bounds
+pub mod ByParts
+pub mod Series
+pub mod Refusals
+pub mod InLines

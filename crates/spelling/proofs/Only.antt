@@ -1,16 +1,15 @@
 -- What a reader must have taken of words that spell one thing and then another: the same words, up to where the other
 -- begins.
-use Rattle.std.proofs.Common.{◌≡◌, ℕ, zero, suc, ◌+◌, ◌≤◌, Bool, true, false, IsTrue, List, [], ◌∷◌, ◌++◌, None, bytes_eq, cond, Result, Ok, Err, refl, ap, sym, subst, ◌∙◌, append_assoc, add-one, ◌⊎◌, inl, inr, drop}
+use Rattle.std.proofs.Common.{◌≡◌, ℕ, zero, suc, ◌+◌, ◌≤◌, Bool, true, false, IsTrue, List, [], ◌∷◌, ◌++◌, None, bytes_eq, cond, refl, ap, sym, subst, ◌∙◌, append_assoc, add-one, ◌⊎◌, inl, inr, drop}
 use Rattle.std.proofs.lemmas.Slice.Eq.{bytes_eq-Decides}
 use Rattle.std.proofs.lemmas.Bool.{false≢true}
-use Rattle.std.specs.Result.{IsErrAnd}
 use Rattle.p4_lexer.specs.declared.token.Kind.{Kind}
 use Rattle.p4_lexer.specs.declared.token.Kind.TheVariants as kind
 use Rattle.spelling.specs.Words.{Word}
 use Rattle.spelling.specs.Grammar.{Grammar, Empty, Either, Where, ◌⨟◌, One, Sign, Named, Num, IsSign, IsNum, is_sign, is_reserved, Begins, Bracketed}
 use Rattle.spelling.specs.declared.error.SyntaxError.{SyntaxError}
 use Rattle.spelling.specs.declared.error.SyntaxError.TheVariants as error
-use Rattle.spelling.specs.Reading.{Takes, MayTake, MayRefuse, IsWant, IsAnswer, Ends}
+use Rattle.spelling.specs.Reading.{Takes, MayTake, MayRefuse, IsWant, Ends}
 use Rattle.spelling.proofs.Taking.{may, may_both, may_empty}
 
 -- where the first of two things ends and the other begins
@@ -106,11 +105,6 @@ same_name m t = let e = same_word m t in let f = m.spelled.is_this.1 in let g = 
 
 pub named_same : {n k : List ℕ} {Q : Grammar} {a b c : List Word} → MayTake (Named n ⨟ Q) a c → Takes (Named k) a b → k ≡ n
 named_same m t = same_name (split m).first t
-
--- want of memory is an answer, whatever the words spell
-pub want_answers : {A B : Type 0} (seen : A → B) (x : B) (rest now : List Word) (e : SyntaxError) (r : Result A SyntaxError) → IsErrAnd r (λ d. d ≡ e) → IsWant e → IsAnswer seen x rest now r
-want_answers seen x rest now e (Ok y) is want = absurd is
-want_answers seen x rest now e (Err d) is want = subst IsWant (sym is) want
 
 -- what stands there is refused only for want of memory
 pub stands : {Stands : Type 0} (at : ℕ) (e : SyntaxError) → MayRefuse Stands at e → Stands → IsWant e

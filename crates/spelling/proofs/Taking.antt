@@ -40,6 +40,9 @@ takes_as f t = record { front = t.front; joined = t.joined; spelled = f t.front 
 pub takes_where : {fact : Type 0} {Of : Grammar} {a b : List Word} → fact → Takes Of a b → Takes (Where fact Of) a b
 takes_where holds t = record { front = t.front; joined = t.joined; spelled = (holds, t.spelled); fewer = t.fewer }
 
+pub may_where : {fact : Type 0} {Of : Grammar} {a b : List Word} → fact → MayTake Of a b → MayTake (Where fact Of) a b
+may_where holds m = record { front = m.front; joined = m.joined; spelled = (holds, m.spelled) }
+
 pub may_empty : {a : List Word} → MayTake Empty a a
 may_empty = record { front = []; joined = refl; spelled = refl }
 

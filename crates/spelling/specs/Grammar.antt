@@ -1,6 +1,6 @@
 -- An algebra of grammars, this project's own: a grammar says which lists of words spell one thing. A word's kind is part
 -- of what it spells, so no word is both a sign and a name, whatever its bytes are.
-use Rattle.std.specs.Prelude.{◌≡◌, ℕ, zero, suc, Bool, true, false, IsTrue, List, [], ◌∷◌, ◌++◌, None, codes, ◌⊎◌}
+use Rattle.std.specs.Prelude.{◌≡◌, ℕ, zero, suc, Bool, true, false, IsTrue, List, [], ◌∷◌, ◌++◌, Option, None, codes, ◌⊎◌}
 use Rattle.p4_lexer.specs.declared.token.Kind.{Kind}
 use Rattle.p4_lexer.specs.declared.token.Kind.TheVariants as kind
 use Rattle.spelling.specs.Words.{Word, Touch}
@@ -134,3 +134,25 @@ BeginTouching IsFirst IsSecond (one ∷ other ∷ ws) = IsFirst one × IsSecond 
 abbrev pub Bracketed : List ℕ → List ℕ → ℕ → (ℕ → Grammar) → Grammar
 Bracketed opening closing zero Between = Nothing
 Bracketed opening closing (suc depth) Between = Sign opening ⨟ Between depth ⨟ Sign closing
+
+-- a word is a name, or a number with a width or without
+abbrev pub IsName : Word → Type 0
+IsName word = word.kind ≡ kind.Name
+
+abbrev pub IsAnyNumber : Word → Type 0
+IsAnyNumber word = IsTrue (is_number word.kind)
+
+-- one word that is this number with this width
+abbrev pub NumberOf : Option ℕ × ℕ → Grammar
+NumberOf number = One (λ word. word.kind ≡ kind.Number number.0 number.1)
+
+-- one word that is the include of this file
+abbrev pub IncludeOf : ℕ → Grammar
+IncludeOf file = One (λ word. word.kind ≡ kind.Include file)
+
+-- two signs that touch
+abbrev pub TwoSigns : List ℕ → List ℕ → Grammar
+TwoSigns one other = TwoTouching (IsSign one) (IsSign other)
+
+abbrev pub BeginSigns : List ℕ → List ℕ → Grammar
+BeginSigns one other = BeginTouching (IsSign one) (IsSign other)

@@ -3,3 +3,4 @@ pub mod Grammar
 pub mod Reading
 pub mod Brackets
 pub mod Bounds
+pub mod Readers

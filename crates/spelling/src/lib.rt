@@ -2,10 +2,14 @@
 //! whose contracts speak in it.
 #![tactic(auto)]
 
+mod brackets;
 mod collecting;
 mod error;
+mod parts;
 mod reader;
 
+pub use brackets::in_brackets;
 pub use collecting::keep;
 pub use error::SyntaxError;
+pub use parts::{separated, then_sign, until, until_reserved};
 pub use reader::Reader;

@@ -1,7 +1,12 @@
-ghost use Rattle.std.specs.Prelude.{◌≡◌, ℕ, ◌+◌, ◌<◌, ◌≤◌, ◌↔◌, [], ◌∷◌, drop, false, length, IsTrue, OnOk, OnErr, IfOk, IfErr, IfSome, MatchOption};
-ghost use Rattle.spelling.specs.Words.{words, word_of, piece_of};
-ghost use Rattle.spelling.specs.Grammar.{One, Sign, TwoTouching, Reserved, Named, Num, IsSign, IsReserved, IsNamed, IsNum, is_number, Begins, BeginTouching};
-ghost use Rattle.spelling.specs.Reading.{ahead, place, Takes, MayRefuse, MayNotOpen};
+ghost use Rattle.std.specs.Prelude.{◌≡◌, ℕ, ◌+◌, ◌<◌, ◌≤◌, ◌↔◌, [], drop, false, length};
+ghost use Rattle.std.specs.Prelude.{IsTrue, OnOk, OnErr, IfOk, IfSome, MatchOption};
+ghost use Rattle.spelling.specs.Words.{piece_of, words};
+ghost use Rattle.spelling.specs.Grammar.{Begins, BeginSigns, IncludeOf, IsAnyNumber, IsName};
+ghost use Rattle.spelling.specs.Grammar.{IsNamed, IsNum, IsReserved, IsSign, Named, Num, NumberOf};
+ghost use Rattle.spelling.specs.Grammar.{Reserved, Sign, TwoSigns};
+ghost use Rattle.spelling.specs.Reading.{ahead, place, Takes};
+ghost use Rattle.spelling.specs.Readers.{RefusesBracket, RefusesInclude, RefusesNumber, RefusesWord};
+ghost use Rattle.spelling.specs.Readers.{AtEnd, NextIs, TakesOver};
 
 use crate::error::SyntaxError;
 use elx_bits::Name;
@@ -114,7 +119,7 @@ impl<'a> Reader<'a> {
 
     /// Whether the next two tokens are these signs, and touch.
     pub fn is_at_touching(&self, one: &[u8], other: &[u8]) -> bool
-        ensures { IsTrue result ↔ BeginTouching (IsSign one.now) (IsSign other.now) (ahead self.now) }
+        ensures { IsTrue result ↔ BeginSigns one.now other.now (ahead self.now) }
     {
         let Some(first) = self.peek() else {
             return false;
@@ -128,7 +133,7 @@ impl<'a> Reader<'a> {
 
     /// Whether the next token is a name.
     pub fn is_at_any_name(&self) -> bool
-        ensures { IsTrue result ↔ Begins (λ word. word.kind ≡ Kind.Name) (ahead self.now) }
+        ensures { IsTrue result ↔ Begins IsName (ahead self.now) }
     {
         let Some(token) = self.peek() else {
             return false;
@@ -138,7 +143,7 @@ impl<'a> Reader<'a> {
 
     /// Whether the next token is a number, with a width or without.
     pub fn is_at_number(&self) -> bool
-        ensures { IsTrue result ↔ Begins (λ word. IsTrue (is_number word.kind)) (ahead self.now) }
+        ensures { IsTrue result ↔ Begins IsAnyNumber (ahead self.now) }
     {
         let Some(token) = self.peek() else {
             return false;
@@ -162,7 +167,7 @@ impl<'a> Reader<'a> {
     /// Goes over this sign. NotProgram where the next token is another; the reader stays then.
     pub fn sign(&mut self, sign: &[u8]) -> Result<(), SyntaxError>
         ensures taken { OnOk result (Takes (Sign sign.now) (ahead self.old) (ahead self.new)) }
-        ensures refused { IfErr result (MayRefuse (Begins (IsSign sign.now) (ahead self.old)) (place self.old)) }
+        ensures refused { RefusesWord (IsSign sign.now) self.old result }
         ensures left { OnErr result (self.new ≡ self.old) }
     {
         if self.eat_sign(sign) {
@@ -173,8 +178,8 @@ impl<'a> Reader<'a> {
 
     /// Goes over these two signs where they are the next tokens and touch, and says whether they are. Else the reader stays.
     pub fn eat_touching(&mut self, one: &[u8], other: &[u8]) -> bool
-        ensures at { IsTrue result ↔ BeginTouching (IsSign one.now) (IsSign other.now) (ahead self.old) }
-        ensures taken { IsTrue result → Takes (TwoTouching (IsSign one.now) (IsSign other.now)) (ahead self.old) (ahead self.new) }
+        ensures at { IsTrue result ↔ BeginSigns one.now other.now (ahead self.old) }
+        ensures taken { IsTrue result → TakesOver (TwoSigns one.now other.now) self.old self.new }
         ensures left { result ≡ false → self.new ≡ self.old }
     {
         let is_here = self.is_at_touching(one, other);
@@ -187,7 +192,7 @@ impl<'a> Reader<'a> {
     /// Goes over this reserved word. NotProgram where the next token is another; the reader stays then.
     pub fn reserved(&mut self, text: &[u8]) -> Result<(), SyntaxError>
         ensures taken { OnOk result (Takes (Reserved text.now) (ahead self.old) (ahead self.new)) }
-        ensures refused { IfErr result (MayRefuse (Begins (IsReserved text.now) (ahead self.old)) (place self.old)) }
+        ensures refused { RefusesWord (IsReserved text.now) self.old result }
         ensures left { OnErr result (self.new ≡ self.old) }
     {
         if !self.is_at_reserved(text) {
@@ -200,7 +205,7 @@ impl<'a> Reader<'a> {
     /// Goes over this name, which the grammar fixes. NotProgram where the next token is another; the reader stays then.
     pub fn fixed_name(&mut self, name: &[u8]) -> Result<(), SyntaxError>
         ensures taken { OnOk result (Takes (Named name.now) (ahead self.old) (ahead self.new)) }
-        ensures refused { IfErr result (MayRefuse (Begins (IsNamed name.now) (ahead self.old)) (place self.old)) }
+        ensures refused { RefusesWord (IsNamed name.now) self.old result }
         ensures left { OnErr result (self.new ≡ self.old) }
     {
         if !self.is_at_name(name) {
@@ -216,7 +221,7 @@ impl<'a> Reader<'a> {
     pub fn open(&mut self, bracket: &[u8], depth: u32) -> Result<u32, SyntaxError>
         ensures depth { IfOk result (λ inner. depth ≡ inner + 1) }
         ensures taken { OnOk result (Takes (Sign bracket.now) (ahead self.old) (ahead self.new)) }
-        ensures refused { IfErr result (MayNotOpen (Begins (IsSign bracket.now) (ahead self.old)) depth (place self.old)) }
+        ensures refused { RefusesBracket bracket.now depth self.old result }
         ensures left { OnErr result (self.new ≡ self.old) }
     {
         if !self.is_at_sign(bracket) {
@@ -234,7 +239,7 @@ impl<'a> Reader<'a> {
     /// Reads a name. NotProgram where the next token is none; the reader stays then, and for want of memory.
     pub fn name(&mut self, alloc: Global) -> Result<Name, SyntaxError>
         ensures taken { IfOk result (λ name. Takes (Named name) (ahead self.old) (ahead self.new)) }
-        ensures refused { IfErr result (MayRefuse (Begins (λ word. word.kind ≡ Kind.Name) (ahead self.old)) (place self.old)) }
+        ensures refused { RefusesWord IsName self.old result }
         ensures left { OnErr result (self.new ≡ self.old) }
     {
         let Some(token) = self.peek() else {
@@ -255,7 +260,7 @@ impl<'a> Reader<'a> {
     pub fn number(&mut self, most: u128) -> Result<u128, SyntaxError>
         ensures within { IfOk result (λ value. value ≤ most) }
         ensures taken { IfOk result (λ value. Takes (Num value) (ahead self.old) (ahead self.new)) }
-        ensures refused { IfErr result (MayRefuse ((value : ℕ) × (value ≤ most) × Begins (IsNum value) (ahead self.old)) (place self.old)) }
+        ensures refused { RefusesNumber most self.old result }
         ensures left { OnErr result (self.new ≡ self.old) }
     {
         let Some(value) = self.number_ahead() else {
@@ -270,8 +275,8 @@ impl<'a> Reader<'a> {
 
     /// Reads a number and its width, where it has one. NotProgram where the next token is none; the reader stays then.
     pub fn any_number(&mut self) -> Result<(Option<u8>, u128), SyntaxError>
-        ensures taken { IfOk result (λ number. Takes (One (λ word. word.kind ≡ Kind.Number number.0 number.1)) (ahead self.old) (ahead self.new)) }
-        ensures refused { IfErr result (MayRefuse (Begins (λ word. IsTrue (is_number word.kind)) (ahead self.old)) (place self.old)) }
+        ensures taken { IfOk result (λ number. TakesOver (NumberOf number) self.old self.new) }
+        ensures refused { RefusesWord IsAnyNumber self.old result }
         ensures left { OnErr result (self.new ≡ self.old) }
     {
         let Some(token) = self.peek() else {
@@ -286,8 +291,8 @@ impl<'a> Reader<'a> {
 
     /// Reads an include, and gives the number of its file. NotProgram where the next token is none; the reader stays then.
     pub fn include(&mut self) -> Result<u8, SyntaxError>
-        ensures taken { IfOk result (λ file. Takes (One (λ word. word.kind ≡ Kind.Include file)) (ahead self.old) (ahead self.new)) }
-        ensures refused { IfErr result (MayRefuse ((file : ℕ) × Begins (λ word. word.kind ≡ Kind.Include file) (ahead self.old)) (place self.old)) }
+        ensures taken { IfOk result (λ file. TakesOver (IncludeOf file) self.old self.new) }
+        ensures refused { RefusesInclude self.old result }
         ensures left { OnErr result (self.new ≡ self.old) }
     {
         let Some(token) = self.peek() else {
@@ -327,7 +332,7 @@ impl<'a> Reader<'a> {
 
     /// The next token, or none at the end.
     fn peek(&self) -> Option<&'a Token>
-        ensures words { MatchOption result (ahead self.now ≡ []) (λ token. ahead self.now ≡ word_of self.now.text.now token.now ∷ words self.now.text.now (drop (self.now.next + 1) self.now.tokens.now)) }
+        ensures words { MatchOption result (AtEnd self.now) (λ token. NextIs self.now token.now) }
         ensures inside { IfSome result (λ _. self.now.next < length self.now.tokens.now) }
     {
         self.tokens.get(self.next)

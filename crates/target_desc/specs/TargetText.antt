@@ -1,6 +1,6 @@
 -- Which text describes which target: a TOML document whose table has the eight keys of a target, each with a whole
 -- number in its range, and no other key. TOML is the TOML specification 1.0.0; the keys and ranges are this project's own.
-use Rattle.std.specs.Prelude.{◌≡◌, ℕ, pos, Bool, true, ◌&&◌, ◌||◌, List, Some, Result, Ok, Err, codes, IsUtf8}
+use Rattle.std.specs.Prelude.{◌≡◌, ℕ, pos, Bool, true, ◌&&◌, ◌||◌, List, Option, MatchOption, Some, Result, Ok, Err, codes, IsUtf8}
 use Rattle.std.specs.Str.{bytes_eq}
 use Rattle.toml.specs.Data.{Members, no_members, member, get_member, integer}
 use Rattle.toml.specs.Parse.{parse_document}
@@ -42,6 +42,10 @@ pub record IsTargetTable (table : Members) (target : Target) : Type 0 where
   pub header_bits : IsNumberAt table (codes "header_bits") target.header_bits
   pub ops : IsNumberAt table (codes "ops") target.ops
   pub in_range : IsInRange target
+
+-- the target that a table describes, or none where it describes none
+abbrev pub IsTargetFound : Members → Option Target → Type 0
+IsTargetFound table result = MatchOption result ((target : Target) → IsTargetTable table target → ⊥) (IsTargetTable table)
 
 -- a text is a TOML document with that table
 abbrev pub IsDocument : List ℕ → Members → Type 0

@@ -4,12 +4,27 @@ ghost use Rattle.std.specs.List.{list_all};
 ghost use Rattle.toml.specs.Data.{as_integer, get_member};
 ghost use Rattle.toml.specs.View.{table_view};
 ghost use Rattle.target_desc.specs.InRange.{IsInRange};
-ghost use Rattle.target_desc.specs.TargetText.{IsNumberAt, IsTargetTable, IsTargetText, Reads, has_no_other_key, is_key};
+ghost use Rattle.target_desc.specs.TargetText.{IsNumberAt, IsTargetFound, IsTargetText, Reads, has_no_other_key, is_key};
 ghost use Rattle.target_desc.specs.declared.target.Target.{Target};
+ghost use Rattle.target_desc.specs.OneTarget.{DescribesAtMostOne};
 
 use crate::target::{Target, TargetError};
 use std::alloc::Global;
 use toml::Table;
+
+/// The most stages of a target.
+const MOST_STAGES: u64 = 64;
+
+/// The most bits of each kind of memory in a stage.
+const MOST_STAGE_BITS: u64 = 1_000_000_000;
+
+/// The most actions of each kind in a stage.
+const MOST_STAGE_ACTIONS: u64 = 1024;
+
+const MOST_HEADER_BITS: u64 = 1_000_000;
+
+/// The most operators of a unit.
+const MOST_UNIT_OPERATORS: u64 = 64;
 
 /// Reads the description of a target: a TOML document in UTF-8 with the eight keys of a target, each with a whole
 /// number in its range, and no other key. `NotYet` comes where the text is anything else.
@@ -30,23 +45,23 @@ pub fn read(alloc: Global, text: &[u8]) -> Result<Target, TargetError>
 
 /// One text describes at most one target. It holds of the definitions, and takes no step.
 pub fn at_most_one_target()
-    ensures { (text : List ℕ) (one other : Target) → IsTargetText text one → IsTargetText text other → one ≡ other }
+    ensures { DescribesAtMostOne }
 {}
 
 fn target_of(table: &Table) -> Option<Target>
-    ensures { MatchOption result ((target : Target) → IsTargetTable (table_view table.now) target → ⊥) (IsTargetTable (table_view table.now)) }
+    ensures { IsTargetFound (table_view table.now) result }
 {
     if !has_no_other_key(table) {
         return None;
     }
-    let stages = number_at(table, "stages", 1, 64)?;
-    let memory_bits = number_at(table, "memory_bits", 0, 1_000_000_000)?;
-    let stateful = number_at(table, "stateful", 0, 1024)?;
-    let stateless = number_at(table, "stateless", 0, 1024)?;
-    let table_bits = number_at(table, "table_bits", 0, 1_000_000_000)?;
-    let ternary_bits = number_at(table, "ternary_bits", 0, 1_000_000_000)?;
-    let header_bits = number_at(table, "header_bits", 0, 1_000_000)?;
-    let ops = number_at(table, "ops", 0, 64)?;
+    let stages = number_at(table, "stages", 1, MOST_STAGES)?;
+    let memory_bits = number_at(table, "memory_bits", 0, MOST_STAGE_BITS)?;
+    let stateful = number_at(table, "stateful", 0, MOST_STAGE_ACTIONS)?;
+    let stateless = number_at(table, "stateless", 0, MOST_STAGE_ACTIONS)?;
+    let table_bits = number_at(table, "table_bits", 0, MOST_STAGE_BITS)?;
+    let ternary_bits = number_at(table, "ternary_bits", 0, MOST_STAGE_BITS)?;
+    let header_bits = number_at(table, "header_bits", 0, MOST_HEADER_BITS)?;
+    let ops = number_at(table, "ops", 0, MOST_UNIT_OPERATORS)?;
     Some(Target {
         stages: stages as u8,
         memory_bits,

@@ -6,15 +6,15 @@ use Rattle.elastic_ast.specs.declared.rule.Rule.{Rule}
 use Rattle.elastic_ast.specs.declared.rule.Rule.TheVariants.{Twice}
 use Rattle.elastic_ast.specs.Tree.{PlainDecl}
 use Rattle.elastic_ast.specs.Seen.{seen_decl, seen_decls}
-use Rattle.elastic_ast.specs.Scope.{or_else}
-use Rattle.elastic_ast.specs.Demand.{Demand, First, Plain, met, rule_of, first_broken}
-use Rattle.elastic_ast.specs.AskedOfNames.{asks_names, top_name, top_names}
-use Rattle.elastic_ast.specs.Asked.{asks_decl, asked, is_first}
-use Rattle.elastic_ast.specs.Typed.{broken_rule, first_of}
-use Rattle.elastic_ast.proofs.First.{first-append}
-use Rattle.elastic_ast.proofs.TypedLaws.{is_no_part}
+use Rattle.elastic_ast.specs.Typing.Scope.{or_else}
+use Rattle.elastic_ast.specs.Typing.Demand.{Demand, First, Plain, met, rule_of, first_broken}
+use Rattle.elastic_ast.specs.Typing.AskedOfNames.{asks_names, top_name, top_names}
+use Rattle.elastic_ast.specs.Typing.Asked.{asks_decl, asked, is_first}
+use Rattle.elastic_ast.specs.Typing.Typed.{broken_rule, first_of}
+use Rattle.elastic_ast.proofs.Typing.First.{first-append}
+use Rattle.elastic_ast.proofs.Typing.TypedLaws.{is_no_part}
 use Rattle.std.specs.List.{list_all}
-use Rattle.width_check.specs.Begun.{is_begun}
+use Rattle.width_check.specs.Supported.{is_supported}
 use Rattle.width_check.specs.Scoped.{before_of, next_names, name_broken}
 use Rattle.width_check.proofs.ScopeLaws.{step_take}
 use Rattle.width_check.proofs.Steps.{items_drop}
@@ -100,29 +100,29 @@ sound_of false k before (d ∷ ds) h = by (first_broken false (asked before d)) 
     by None y p u v q h = ap (λ z. or_else (option_map (λ r. let p : Rule × ℕ = (r, k) in p) z) v) (p refl) ∙ q h
     by (Some x) y p u v q h = cc
 
-pub begun_step : (ds : List Decl) (i : ℕ) (d : Decl) (whole : Bool) → i < length ds → d ≡ get_or ds i d → is_begun (seen_decl d) ≡ true → list_all is_begun (seen_decls (drop i ds)) ≡ whole → list_all is_begun (seen_decls (drop (i + 1) ds)) ≡ whole
-begun_step ds i d whole h e begun inv = ap (λ b. b && list_all is_begun (seen_decls (drop (i + 1) ds))) (sym begun) ∙ ap (λ z. list_all is_begun (seen_decls z)) (sym (items_drop ds i d h e)) ∙ inv
+pub supported_step : (ds : List Decl) (i : ℕ) (d : Decl) (whole : Bool) → i < length ds → d ≡ get_or ds i d → is_supported (seen_decl d) ≡ true → list_all is_supported (seen_decls (drop i ds)) ≡ whole → list_all is_supported (seen_decls (drop (i + 1) ds)) ≡ whole
+supported_step ds i d whole h e supported inv = ap (λ b. b && list_all is_supported (seen_decls (drop (i + 1) ds))) (sym supported) ∙ ap (λ z. list_all is_supported (seen_decls z)) (sym (items_drop ds i d h e)) ∙ inv
 
 -- the forms that are taken so far are no parts of a pipeline
-begun_part : (d : PlainDecl) → is_begun d ≡ true → is_no_part d ≡ true
-begun_part (PlainDecl.Include n) h = refl
-begun_part (PlainDecl.Symbol n) h = refl
-begun_part (PlainDecl.Assume cs) h = refl
-begun_part (PlainDecl.Maximize ts) h = refl
-begun_part (PlainDecl.Const n w v) h = refl
-begun_part (PlainDecl.Header n fs) h = refl
-begun_part (PlainDecl.Headers ms) h = refl
-begun_part (PlainDecl.Meta fs) h = refl
-begun_part (PlainDecl.Register n w c s) h = h
-begun_part (PlainDecl.Parser n ss) h = h
-begun_part (PlainDecl.Control n ls b) h = h
-begun_part (PlainDecl.Deparser n es) h = h
-begun_part (PlainDecl.Main p c d) h = h
+supported_part : (d : PlainDecl) → is_supported d ≡ true → is_no_part d ≡ true
+supported_part (PlainDecl.Include n) h = refl
+supported_part (PlainDecl.Symbol n) h = refl
+supported_part (PlainDecl.Assume cs) h = refl
+supported_part (PlainDecl.Maximize ts) h = refl
+supported_part (PlainDecl.Const n w v) h = refl
+supported_part (PlainDecl.Header n fs) h = refl
+supported_part (PlainDecl.Headers ms) h = refl
+supported_part (PlainDecl.Meta fs) h = refl
+supported_part (PlainDecl.Register n w c s) h = h
+supported_part (PlainDecl.Parser n ss) h = h
+supported_part (PlainDecl.Control n ls b) h = h
+supported_part (PlainDecl.Deparser n es) h = h
+supported_part (PlainDecl.Main p c d) h = h
 
 both_true : (a b c d : Bool) → (a ≡ true → c ≡ true) → (b ≡ true → d ≡ true) → (a && b) ≡ true → (c && d) ≡ true
 both_true true b c d p q h = ap (λ z. z && d) (p refl) ∙ q h
 both_true false b c d p q h = absurd (true≢false (sym h))
 
-pub begun_parts : (ds : List PlainDecl) → list_all is_begun ds ≡ true → list_all is_no_part ds ≡ true
-begun_parts [] h = refl
-begun_parts (d ∷ ds) h = both_true (is_begun d) (list_all is_begun ds) (is_no_part d) (list_all is_no_part ds) (begun_part d) (begun_parts ds) h
+pub supported_parts : (ds : List PlainDecl) → list_all is_supported ds ≡ true → list_all is_no_part ds ≡ true
+supported_parts [] h = refl
+supported_parts (d ∷ ds) h = both_true (is_supported d) (list_all is_supported ds) (is_no_part d) (list_all is_no_part ds) (supported_part d) (supported_parts ds) h

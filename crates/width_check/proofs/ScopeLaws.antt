@@ -1,5 +1,7 @@
 -- The table of a scope has the names of its declarations, each once, so a look-up finds the one declaration of a name.
-use Rattle.std.proofs.Common.{◌≡◌, ℕ, zero, suc, ◌+◌, ◌<◌, Bool, true, false, not, cond, ◌&&◌, ◌||◌, List, [], ◌∷◌, ◌++◌, map, take, drop, length, get_or, Option, Some, None, refl, sym, ap, subst, ◌∙◌, true≢false, arith, add-one, append_assoc, is_some}
+use Rattle.std.proofs.lemmas.Bool.{and_from, and_parts, not-true, or_left, or_from, or_right, or_parts}
+use Rattle.std.proofs.lemmas.List.{append-nil}
+use Rattle.std.proofs.Common.{◌≡◌, ℕ, zero, suc, ◌+◌, ◌<◌, Bool, true, false, not, cond, ◌||◌, List, [], ◌∷◌, ◌++◌, map, take, drop, length, get_or, Option, Some, None, refl, sym, ap, subst, ◌∙◌, true≢false, arith, add-one, append_assoc, is_some}
 use Rattle.std.specs.Prelude.{◌==◌, if◌then◌else◌, nat_eq, option_map, option_and_then}
 use Rattle.std.specs.Map.{lookup}
 use Rattle.std.specs.Cmp.Lexicographic.{pointwise, same_text}
@@ -10,10 +12,10 @@ use Rattle.elastic_ast.specs.declared.declarations.Decl.{Decl}
 use Rattle.elastic_ast.specs.declared.rule.Rule.{Rule}
 use Rattle.elastic_ast.specs.Tree.{Name, PlainDecl}
 use Rattle.elastic_ast.specs.Seen.{seen_decl, seen_decls}
-use Rattle.elastic_ast.specs.Scope.{same, among, or_else, found, symbol_of, is_symbol}
-use Rattle.elastic_ast.specs.Demand.{Fresh, Plain, met, rule_of, first_broken, fixed_names}
-use Rattle.elastic_ast.specs.AskedOfNames.{asks_names, top_name, top_names}
-use Rattle.elastic_ast.specs.Asked.{once, has}
+use Rattle.elastic_ast.specs.Typing.Scope.{same, among, or_else, found, symbol_of, is_symbol}
+use Rattle.elastic_ast.specs.Typing.Demand.{Fresh, Plain, met, rule_of, first_broken, fixed_names}
+use Rattle.elastic_ast.specs.Typing.AskedOfNames.{asks_names, top_name, top_names}
+use Rattle.elastic_ast.specs.Typing.Asked.{DeclKind, is_of_kind, has}
 use Rattle.width_check.specs.Table.{names_in, IsRefusal}
 use Rattle.width_check.specs.declared.table.Refusal.{Refusal}
 use Rattle.width_check.specs.Scoped.{entries_seen, with_decl, names_with, named, are_new, are_distinct, before_of, next_names, name_broken}
@@ -56,49 +58,33 @@ names_named (d ∷ ds) = names_paired d (top_name d) (named ds) ∙ ap (λ z. to
 pub names_of_table : (es : List (Bor (List ℕ) × Bor Decl)) (ds : List PlainDecl) → entries_seen es ≡ named ds → names_in es ≡ top_names ds
 names_of_table es ds h = names_seen es ∙ ap (map first_name) h ∙ names_named ds
 
-append_nil : {A : Type 0} (xs : List A) → xs ++ [] ≡ xs
-append_nil [] = refl
-append_nil (x ∷ xs) = ap (λ z. x ∷ z) (append_nil xs)
-
 pub table_step : (ds : List PlainDecl) (x : PlainDecl) (old new : List (Name × PlainDecl)) → new ≡ old ++ names_with x → old ≡ named ds → new ≡ named (ds ++ x ∷ [])
 table_step ds x old new a h =
-    a ∙ ap (λ z. z ++ names_with x) h ∙ ap (λ z. named ds ++ z) (sym (append_nil (names_with x))) ∙ sym (flat_map-append names_with ds (x ∷ []))
+    a ∙ ap (λ z. z ++ names_with x) h ∙ ap (λ z. named ds ++ z) (sym (append-nil (names_with x))) ∙ sym (flat_map-append names_with ds (x ∷ []))
 
 -- names that may be declared are new
-both : (a b : Bool) → a ≡ true → b ≡ true → (a && b) ≡ true
-both true b p q = q
-both false b p q = absurd (true≢false (sym p))
-
 if_none : {A : Type 0} (b : Bool) (x : A) (o : Option A) → (if b then o else Some x) ≡ None → (b ≡ true) × (o ≡ None)
 if_none true x o h = (refl, h)
 if_none false x o h = cc
 
-left_true : (a b : Bool) → (a && b) ≡ true → a ≡ true
-left_true true b h = refl
-left_true false b h = absurd (true≢false (sym h))
-
-right_true : (a b : Bool) → (a && b) ≡ true → b ≡ true
-right_true true b h = h
-right_true false b h = absurd (true≢false (sym h))
-
 new_names : (allow : Bool) (before ns : List Name) → first_broken allow (asks_names before ns) ≡ None → are_new before ns ≡ true
 new_names allow before [] h = refl
 new_names allow before (n ∷ ns) h =
-    both (not (among before n)) (are_new (before ++ n ∷ []) ns) (left_true (not (among before n)) (not (among fixed_names n)) here.0)
+    and_from (not (among before n)) (are_new (before ++ n ∷ []) ns) ((and_parts (not (among before n)) (not (among fixed_names n)) here.0).0)
     (new_names allow (before ++ n ∷ []) ns (if_none (met allow (Plain n)) (rule_of (Plain n)) (first_broken allow (asks_names (before ++ n ∷ []) ns)) here.1).1)
   where
     here : (met allow (Fresh before n) ≡ true) × (first_broken allow (Plain n ∷ asks_names (before ++ n ∷ []) ns) ≡ None)
     here = if_none (met allow (Fresh before n)) (rule_of (Fresh before n)) (first_broken allow (Plain n ∷ asks_names (before ++ n ∷ []) ns)) h
 
 new-append : (before xs ys : List Name) → are_new before xs ≡ true → are_new (before ++ xs) ys ≡ true → are_new before (xs ++ ys) ≡ true
-new-append before [] ys p q = ap (λ z. are_new z ys) (sym (append_nil before)) ∙ q
+new-append before [] ys p q = ap (λ z. are_new z ys) (sym (append-nil before)) ∙ q
 new-append before (x ∷ xs) ys p q =
-    both (not (among before x)) (are_new (before ++ x ∷ []) (xs ++ ys)) (left_true (not (among before x)) (are_new (before ++ x ∷ []) xs) p)
-    (new-append (before ++ x ∷ []) xs ys (right_true (not (among before x)) (are_new (before ++ x ∷ []) xs) p) (ap (λ z. are_new z ys) (append_assoc before (x ∷ []) xs) ∙ q))
+    and_from (not (among before x)) (are_new (before ++ x ∷ []) (xs ++ ys)) ((and_parts (not (among before x)) (are_new (before ++ x ∷ []) xs) p).0)
+    (new-append (before ++ x ∷ []) xs ys ((and_parts (not (among before x)) (are_new (before ++ x ∷ []) xs) p).1) (ap (λ z. are_new z ys) (append_assoc before (x ∷ []) xs) ∙ q))
 
 pub distinct_step : (allow : Bool) (ds : List PlainDecl) (x : PlainDecl) (known : List Name) → first_broken allow (asks_names known (top_name x)) ≡ None → known ≡ top_names ds → are_distinct (top_names ds) ≡ true → are_distinct (top_names (ds ++ x ∷ [])) ≡ true
 distinct_step allow ds x known fresh h p =
-    ap are_distinct (flat_map-append top_name ds (x ∷ []) ∙ ap (λ z. top_names ds ++ z) (append_nil (top_name x)))
+    ap are_distinct (flat_map-append top_name ds (x ∷ []) ∙ ap (λ z. top_names ds ++ z) (append-nil (top_name x)))
     ∙ new-append [] (top_names ds) (top_name x) p (ap (λ z. are_new z (top_name x)) (sym h) ∙ new_names allow known (top_name x) fresh)
 
 -- what a list of names has before it stands in none of its names
@@ -106,44 +92,24 @@ or_last : (a b : Bool) → (a || b) ≡ true → a ≡ false → b ≡ true
 or_last true b h e = absurd (true≢false e)
 or_last false b h e = h
 
-not_true : (b : Bool) → not b ≡ true → b ≡ false
-not_true true h = absurd (true≢false (sym h))
-not_true false h = refl
-
 among-append : (n : Name) (xs ys : List Name) → among (xs ++ ys) n ≡ (among xs n || among ys n)
 among-append n xs ys = list_any-append (same n) xs ys
 
-or_left : (a b : Bool) → a ≡ true → (a || b) ≡ true
-or_left true b h = refl
-or_left false b h = absurd (true≢false (sym h))
-
-or_false : (a b : Bool) → a ≡ false → b ≡ false → (a || b) ≡ false
-or_false true b p q = p
-or_false false b p q = q
-
 not_among : (n : Name) (before ns : List Name) → are_new before ns ≡ true → among before n ≡ true → among ns n ≡ false
 not_among n before [] p h = refl
-not_among n before (m ∷ ms) p h = by (same n m) refl (not_among n (before ++ m ∷ []) ms (right_true (not (among before m)) (are_new (before ++ m ∷ []) ms) p) (among-append n before (m ∷ []) ∙ or_left (among before n) (among (m ∷ []) n) h))
+not_among n before (m ∷ ms) p h = by (same n m) refl (not_among n (before ++ m ∷ []) ms ((and_parts (not (among before m)) (are_new (before ++ m ∷ []) ms) p).1) (among-append n before (m ∷ []) ∙ or_left (among before n) (among (m ∷ []) n) h))
   where
     by : (b : Bool) → same n m ≡ b → among ms n ≡ false → (same n m || among ms n) ≡ false
-    by true e later = absurd (true≢false (sym h ∙ ap (among before) (same_text n m (sym e)) ∙ not_true (among before m) (left_true (not (among before m)) (are_new (before ++ m ∷ []) ms) p)))
-    by false e later = or_false (same n m) (among ms n) e later
+    by true e later = absurd (true≢false (sym h ∙ ap (among before) (same_text n m (sym e)) ∙ not-true (among before m) ((and_parts (not (among before m)) (are_new (before ++ m ∷ []) ms) p).0)))
+    by false e later = or_from (same n m) (among ms n) e later
 
 or_none : {A : Type 0} (a : Option A) → or_else a None ≡ a
 or_none None = refl
 or_none (Some x) = refl
 
-or_right : (a b : Bool) → b ≡ true → (a || b) ≡ true
-or_right true b h = refl
-or_right false b h = h
-
-right_false : (a b : Bool) → (a || b) ≡ false → b ≡ false
-right_false false b h = h
-right_false true b h = absurd (true≢false h)
-
 new_after : (before xs ys : List Name) → are_new before (xs ++ ys) ≡ true → are_new (before ++ xs) ys ≡ true
-new_after before [] ys p = ap (λ z. are_new z ys) (append_nil before) ∙ p
-new_after before (x ∷ xs) ys p = ap (λ z. are_new z ys) (sym (append_assoc before (x ∷ []) xs)) ∙ new_after (before ++ x ∷ []) xs ys (right_true (not (among before x)) (are_new (before ++ x ∷ []) (xs ++ ys)) p)
+new_after before [] ys p = ap (λ z. are_new z ys) (append-nil before) ∙ p
+new_after before (x ∷ xs) ys p = ap (λ z. are_new z ys) (sym (append_assoc before (x ∷ []) xs)) ∙ new_after (before ++ x ∷ []) xs ys ((and_parts (not (among before x)) (are_new (before ++ x ∷ []) (xs ++ ys)) p).1)
 
 -- a declaration that doesn't declare the name gives nothing for it
 module _ {B : Type 0} (n : Name) (pick : PlainDecl → Option B) (quiet : (x : PlainDecl) → among (top_name x) n ≡ false → pick x ≡ None) where
@@ -156,7 +122,7 @@ module _ {B : Type 0} (n : Name) (pick : PlainDecl → Option B) (quiet : (x : P
 
       by : (b : Bool) → among (top_name d) n ≡ b → (among (top_names ds) n ≡ false → found pick ds ≡ None) → or_else (pick d) (found pick ds) ≡ None
       by true e ih = absurd (true≢false (sym (or_left (among (top_name d) n) (among (top_names ds) n) e) ∙ split))
-      by false e ih = ap (λ z. or_else z (found pick ds)) (quiet d e) ∙ ih (right_false (among (top_name d) n) (among (top_names ds) n) split)
+      by false e ih = ap (λ z. or_else z (found pick ds)) (quiet d e) ∙ ih ((or_parts (among (top_name d) n) (among (top_names ds) n) split).1)
 
   lookup_names : (d : PlainDecl) (ns : List Name) (rest : List (Name × PlainDecl)) → lookup (same n) (map (with_decl d) ns ++ rest) ≡ cond (among ns n) (Some d) (lookup (same n) rest)
   lookup_names d [] rest = refl
@@ -179,12 +145,8 @@ module _ {B : Type 0} (n : Name) (pick : PlainDecl → Option B) (quiet : (x : P
           ap (λ z. or_else z (found pick ds)) (quiet d e) ∙ ih
           ∙ sym (ap (option_and_then pick) (lookup_names d (top_name d) (named ds) ∙ ap (λ b. cond b (Some d) (lookup (same n) (named ds))) e))
 
-left_false : (a b : Bool) → (a || b) ≡ false → a ≡ false
-left_false false b h = refl
-left_false true b h = cc
-
 quiet_symbol : (n : Name) (x : PlainDecl) → among (top_name x) n ≡ false → symbol_of n x ≡ None
-quiet_symbol n (PlainDecl.Symbol m) h = ap (λ b. if b then Some m else None) (left_false (same n m) false h)
+quiet_symbol n (PlainDecl.Symbol m) h = ap (λ b. if b then Some m else None) ((or_parts (same n m) false h).0)
 quiet_symbol n _ h = refl
 
 seen_lookup : (n : Name) (es : List (Bor (List ℕ) × Bor Decl)) → option_map (λ d. seen_decl d.now) (lookup (λ k. pointwise nat_eq n k.now) es) ≡ lookup (same n) (entries_seen es)
@@ -216,8 +178,8 @@ pub refused_next : (refusal : Refusal) (a b : Option Rule) → IsRefusal refusal
 refused_next refusal a b h e = subst (IsRefusal refusal) e h
 
 -- one more declaration of a kind that stands once
-pub has_step : (kind : ℕ) (ds : List PlainDecl) (x : PlainDecl) (after : List PlainDecl) (known : Bool) → after ≡ ds ++ x ∷ [] → known ≡ has kind ds → (known || once x == kind) ≡ has kind after
-has_step kind ds x after known a h = ap (λ z. z || once x == kind) h ∙ sym (list_any-append (λ d. once d == kind) ds (x ∷ []) ∙ ap (λ z. has kind ds || z) (or_nothing (once x == kind))) ∙ ap (has kind) (sym a)
+pub has_step : (kind : DeclKind) (ds : List PlainDecl) (x : PlainDecl) (after : List PlainDecl) (known : Bool) → after ≡ ds ++ x ∷ [] → known ≡ has kind ds → (known || is_of_kind kind x) ≡ has kind after
+has_step kind ds x after known a h = ap (λ z. z || is_of_kind kind x) h ∙ sym (list_any-append (is_of_kind kind) ds (x ∷ []) ∙ ap (λ z. has kind ds || z) (or_nothing (is_of_kind kind x))) ∙ ap (has kind) (sym a)
   where
     or_nothing : (b : Bool) → (b || false) ≡ b
     or_nothing true = refl

@@ -1,11 +1,12 @@
 -- One step through a list whose elements each ask something.
-use Rattle.std.proofs.Common.{◌≡◌, ℕ, zero, suc, ◌+◌, ◌<◌, Bool, true, false, ◌&&◌, List, [], ◌∷◌, drop, length, get_or, Option, Some, None, refl, sym, ap, ◌∙◌, arith, add-one}
+use Rattle.std.proofs.lemmas.Bool.{and_parts}
+use Rattle.std.proofs.Common.{◌≡◌, ℕ, zero, suc, ◌+◌, ◌<◌, Bool, true, List, [], ◌∷◌, drop, length, get_or, Option, Some, None, sym, ap, ◌∙◌, arith, add-one}
 use Rattle.std.specs.List.{list_all}
 use Rattle.std.specs.Prelude.{flat_map, Result, Ok, Err, OnOk, IfErr}
 use Rattle.elastic_ast.specs.declared.rule.Rule.{Rule}
-use Rattle.elastic_ast.specs.Scope.{or_else}
-use Rattle.elastic_ast.specs.Demand.{Demand, first_broken}
-use Rattle.elastic_ast.proofs.First.{first-append}
+use Rattle.elastic_ast.specs.Typing.Scope.{or_else}
+use Rattle.elastic_ast.specs.Typing.Demand.{Demand, first_broken}
+use Rattle.elastic_ast.proofs.Typing.First.{first-append}
 use Rattle.width_check.specs.Table.{IsRefusal}
 use Rattle.width_check.specs.declared.table.Refusal.{Refusal}
 use Rattle.width_check.specs.declared.table.Refusal.TheVariants as refusal
@@ -51,11 +52,7 @@ refused_first (refusal.Broken rule) a b whole p e = e ∙ ap (λ z. or_else z b)
 -- what holds of each item from a place on holds of that at the place, and of those behind it
 module _ {X : Type 0} (f : X → Bool) where
   at_head : (ys zs : List X) (x : X) → ys ≡ x ∷ zs → list_all f ys ≡ true → (f x ≡ true) × (list_all f zs ≡ true)
-  at_head ys zs x e h = both (f x) (list_all f zs) (sym (ap (list_all f) e) ∙ h)
-    where
-      both : (a b : Bool) → (a && b) ≡ true → (a ≡ true) × (b ≡ true)
-      both true b k = (refl, k)
-      both false b k = cc
+  at_head ys zs x e h = and_parts (f x) (list_all f zs) (sym (ap (list_all f) e) ∙ h)
 
   pub item_all : (xs : List X) (i : ℕ) (x : X) → i < length xs → x ≡ get_or xs i x → list_all f (drop i xs) ≡ true → f x ≡ true
   item_all xs i x h e k = (at_head (drop i xs) (drop (i + 1) xs) x (items_drop xs i x h e) k).0

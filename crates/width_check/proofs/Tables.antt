@@ -6,9 +6,9 @@ use Rattle.std.specs.Map.{lookup}
 use denote.Bor.{Bor}
 use Rattle.elastic_ast.specs.declared.rule.Rule.{Rule}
 use Rattle.elastic_ast.specs.Tree.{Name}
-use Rattle.elastic_ast.specs.Scope.{same, among}
-use Rattle.elastic_ast.specs.Demand.{first_broken, fixed_names, has_underscores}
-use Rattle.elastic_ast.specs.AskedOfNames.{asks_names}
+use Rattle.elastic_ast.specs.Typing.Scope.{same, among}
+use Rattle.elastic_ast.specs.Typing.Demand.{first_broken, fixed_names, has_underscores}
+use Rattle.elastic_ast.specs.Typing.AskedOfNames.{asks_names}
 use Rattle.width_check.specs.Table.{names_in, name_rule}
 
 pub known_is : {V : Type 0} (n : Name) (es : List (Bor (List ℕ) × V)) → is_some (lookup (λ k. pointwise nat_eq n k.now) es) ≡ among (names_in es) n

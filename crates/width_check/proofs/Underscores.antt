@@ -1,7 +1,7 @@
 -- Two underscores in a row, by length.
 use Rattle.std.proofs.Common.{◌≡◌, ℕ, ◌<◌, ◌≤◌, false, ◌||◌, ◌&&◌, List, [], ◌∷◌, length, drop, refl, arith}
 use Rattle.std.specs.Prelude.{◌==◌, slice_index}
-use Rattle.elastic_ast.specs.Demand.{has_underscores}
+use Rattle.elastic_ast.specs.Typing.Demand.{has_underscores}
 
 pub underscores_short : (n : List ℕ) → length n < 2 → has_underscores n ≡ false
 underscores_short [] h = refl

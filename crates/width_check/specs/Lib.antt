@@ -1,5 +1,5 @@
 pub mod Table
 pub mod Scoped
-pub mod Begun
+pub mod Supported
 pub mod Broken
 pub mod Sound

@@ -5,10 +5,10 @@ use Rattle.elastic_ast.specs.declared.declarations.Decl.{Decl}
 use Rattle.elastic_ast.specs.declared.rule.Rule.{Rule}
 use Rattle.elastic_ast.specs.Tree.{Name, PlainDecl}
 use Rattle.elastic_ast.specs.Seen.{seen_decl, seen_decls}
-use Rattle.elastic_ast.specs.Scope.{among}
-use Rattle.elastic_ast.specs.Demand.{first_broken}
-use Rattle.elastic_ast.specs.AskedOfNames.{asks_names, top_name, top_names}
-use Rattle.elastic_ast.specs.Asked.{has}
+use Rattle.elastic_ast.specs.Typing.Scope.{among}
+use Rattle.elastic_ast.specs.Typing.Demand.{first_broken}
+use Rattle.elastic_ast.specs.Typing.AskedOfNames.{asks_names, top_name, top_names}
+use Rattle.elastic_ast.specs.Typing.Asked.{DeclKind, has}
 
 abbrev pub option_list : {A : Type 0} → Option A → List A
 option_list None = []
@@ -55,5 +55,5 @@ are_distinct names = are_new [] names
 pub record HasNames (place : List Decl × ℕ) (has_utility has_metadata : Bool) (entries : List (Bor (List ℕ) × Bor Decl)) : Type 0 where
   pub names : entries_seen entries ≡ named (before_of place)
   pub distinct : are_distinct (top_names (before_of place)) ≡ true
-  pub utility : has_utility ≡ has 1 (before_of place)
-  pub metadata : has_metadata ≡ has 3 (before_of place)
+  pub utility : has_utility ≡ has DeclKind.Utility (before_of place)
+  pub metadata : has_metadata ≡ has DeclKind.Metadata (before_of place)

@@ -4,8 +4,8 @@ use denote.Bor.{Bor}
 use Rattle.elastic_ast.specs.declared.rule.Rule.{Rule}
 use Rattle.elastic_ast.specs.declared.rule.Rule.TheVariants.{Twice, ReservedName}
 use Rattle.elastic_ast.specs.Tree.{Name}
-use Rattle.elastic_ast.specs.Scope.{among}
-use Rattle.elastic_ast.specs.Demand.{fixed_names, has_underscores}
+use Rattle.elastic_ast.specs.Typing.Scope.{among}
+use Rattle.elastic_ast.specs.Typing.Demand.{fixed_names, has_underscores}
 use Rattle.width_check.specs.declared.table.Refusal.{Refusal}
 use Rattle.width_check.specs.declared.table.Refusal.TheVariants.{Broken, Memory}
 

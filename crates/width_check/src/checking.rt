@@ -3,12 +3,12 @@
 ghost use Rattle.std.specs.Prelude.{◌≡◌, ◌≤◌, ◌<◌, ◌+◌, ◌*◌, length, slice_get, [], Some, None, true, IfOk, OnOk, IfErr};
 ghost use Rattle.std.specs.List.{list_all};
 ghost use Rattle.elastic_ast.specs.Seen.{seen_decl, seen_decls, seen_program};
-ghost use Rattle.elastic_ast.specs.Typed.{Typed, broken_rule, first_of};
+ghost use Rattle.elastic_ast.specs.Typing.Typed.{Typed, broken_rule, first_of};
 ghost use Rattle.width_check.specs.Scoped.{before_of};
 ghost use Rattle.width_check.specs.Table.{IsRefusal};
 ghost use Rattle.width_check.specs.Sound.{IsSound};
-ghost use Rattle.width_check.specs.Broken.{IsBroken, IsFirst};
-ghost use Rattle.width_check.specs.Begun.{is_begun as is_begun_of, is_linear as is_linear_of};
+ghost use Rattle.width_check.specs.Broken.{IsBroken, IsFirst, most_declarations};
+ghost use Rattle.width_check.specs.Supported.{is_supported as is_supported_of, is_linear as is_linear_of};
 
 use crate::declarations::check_declaration;
 use crate::scope::Scope;
@@ -17,9 +17,6 @@ use elastic_ast::{Decl, Program, Rule, UtilTerm};
 use std::alloc::Global;
 use std::marker::Model;
 use thiserror::Error;
-
-/// The most declarations of a program.
-const MOST_DECLS: usize = 134_217_728;
 
 /// A rule that a program breaks, and the number of the declaration that breaks it, counted from 0.
 #[derive(Clone, Copy, Debug, PartialEq, Eq)]
@@ -37,7 +34,7 @@ pub enum CheckError {
     /// A declaration has a form that the checker doesn't take yet.
     #[error("a declaration has a form that isn't checked yet")]
     NotYet,
-    /// There is no memory for the table of names, or the program has more than 134217728 declarations.
+    /// There is no memory for the table of names.
     #[error("out of memory")]
     Memory,
 }
@@ -78,8 +75,8 @@ fn all_linear(terms: &[UtilTerm]) -> bool
 }
 
 /// Whether the checker takes declarations of this form.
-fn is_begun(decl: &Decl) -> bool
-    ensures { result ≡ is_begun_of (seen_decl decl.now) }
+fn is_supported(decl: &Decl) -> bool
+    ensures { result ≡ is_supported_of (seen_decl decl.now) }
 {
     match decl {
         Decl::Symbol(_) | Decl::Assume(_) | Decl::Meta(_) => true,
@@ -96,7 +93,7 @@ fn check_next<'a>(
     decl: &'a Decl,
 ) -> Result<(), Refusal>
     requires here { slice_get scope.old.0 scope.old.1 ≡ Some decl.now }
-    requires begun { is_begun_of (seen_decl decl.now) ≡ true }
+    requires supported { is_supported_of (seen_decl decl.now) ≡ true }
     ensures passed { OnOk result (scope.new ≡ (scope.old.0, scope.old.1 + 1)) }
     ensures fine { OnOk result (broken_rule allow_reserved (before_of scope.old) (seen_decl decl.now) ≡ None) }
     ensures refused { IfErr result (λ refusal. IsRefusal refusal (broken_rule allow_reserved (before_of scope.old) (seen_decl decl.now))) }
@@ -115,14 +112,14 @@ fn check_next<'a>(
 
 /// The first rule that a declaration of a program breaks.
 fn walk(alloc: Global, allow_reserved: bool, decls: &[Decl]) -> Result<(), CheckError>
-    requires { length decls.now ≤ 134217728 }
+    requires { length decls.now ≤ most_declarations }
     ensures fine { OnOk result (first_of (broken_rule allow_reserved) 0 [] (seen_decls decls.now) ≡ None) }
-    ensures begun { OnOk result (list_all is_begun_of (seen_decls decls.now) ≡ true) }
+    ensures supported { OnOk result (list_all is_supported_of (seen_decls decls.now) ≡ true) }
     ensures refused { IfErr result (IsFirst allow_reserved (seen_decls decls.now)) }
 {
     let mut scope = Scope::new(alloc, decls);
     for (i, decl) in decls.iter().enumerate() {
-        if !is_begun(decl) {
+        if !is_supported(decl) {
             return Err(CheckError::NotYet);
         }
         match check_next(alloc, allow_reserved, &mut scope, decl) {
@@ -144,14 +141,12 @@ fn walk(alloc: Global, allow_reserved: bool, decls: &[Decl]) -> Result<(), Check
 /// `Broken` names the first declaration that breaks a rule, and the first rule that it breaks. The program is given up at a
 /// refusal. The rules are this project's own.
 pub fn check(alloc: Global, program: Program, allow_reserved: bool) -> Result<Checked, CheckError>
+    requires { length program.decls ≤ most_declarations }
     ensures same { IfOk result (λ checked. checked ≡ program.decls) }
     ensures typed { OnOk result (Typed allow_reserved (seen_program program)) }
     ensures broken { IfErr result (IsBroken allow_reserved (seen_program program)) }
 {
     let decls = program.decls.as_slice();
-    if decls.len() > MOST_DECLS {
-        return Err(CheckError::Memory);
-    }
     match walk(alloc, allow_reserved, decls) {
         Ok(()) => Ok(Checked { program }),
         Err(error) => Err(error),

@@ -2,13 +2,13 @@
 
 ghost use Rattle.std.specs.Prelude.{◌≡◌, true, [], map, flat_map, IfOk, IfErr, OnOk, None};
 ghost use Rattle.elastic_ast.specs.Seen.{seen_decl};
-ghost use Rattle.elastic_ast.specs.Scope.{or_else};
-ghost use Rattle.elastic_ast.specs.Demand.{first_broken};
-ghost use Rattle.elastic_ast.specs.AskedOfNames.{asks_symbol, asks_names};
-ghost use Rattle.elastic_ast.specs.Asked.{asks_term, asks_comp, asks_util, asks_field, asks_fields, asks_decl, field_name};
+ghost use Rattle.elastic_ast.specs.Typing.Scope.{or_else};
+ghost use Rattle.elastic_ast.specs.Typing.Demand.{first_broken};
+ghost use Rattle.elastic_ast.specs.Typing.AskedOfNames.{asks_symbol, asks_names};
+ghost use Rattle.elastic_ast.specs.Typing.Asked.{asks_term, asks_comp, asks_util, asks_field, asks_fields, asks_decl, field_name};
 ghost use Rattle.width_check.specs.Table.{IsRefusal};
 ghost use Rattle.width_check.specs.Scoped.{before_of};
-ghost use Rattle.width_check.specs.Begun.{is_begun, is_linear};
+ghost use Rattle.width_check.specs.Supported.{is_supported, is_linear};
 ghost use Rattle.std.specs.List.{list_all};
 
 use crate::scope::Scope;
@@ -71,7 +71,7 @@ fn check_terms(allow_reserved: bool, scope: &Scope<'_>, terms: &[LinTerm]) -> Op
     None
 }
 
-#[tactic(auto, using(elastic_ast::proofs::First::firsts))]
+#[tactic(auto, using(elastic_ast::proofs::Typing::First::firsts))]
 fn check_comparison(allow_reserved: bool, scope: &Scope<'_>, comp: &Comp) -> Option<Rule>
     ensures { result ≡ first_broken allow_reserved (asks_comp (before_of scope.now) comp.now) }
 {
@@ -85,7 +85,7 @@ fn check_comparison(allow_reserved: bool, scope: &Scope<'_>, comp: &Comp) -> Opt
     )
 }
 
-#[tactic(auto, using(elastic_ast::proofs::First::firsts))]
+#[tactic(auto, using(elastic_ast::proofs::Typing::First::firsts))]
 fn check_assume(allow_reserved: bool, scope: &Scope<'_>, comps: &[Comp]) -> Option<Rule>
     ensures { result ≡ first_broken allow_reserved (flat_map (asks_comp (before_of scope.now)) comps.now) }
 {
@@ -112,7 +112,7 @@ fn check_util(allow_reserved: bool, scope: &Scope<'_>, term: &UtilTerm) -> Optio
     }
 }
 
-#[tactic(auto, using(elastic_ast::proofs::First::firsts))]
+#[tactic(auto, using(elastic_ast::proofs::Typing::First::firsts))]
 fn check_utility(allow_reserved: bool, scope: &Scope<'_>, terms: &[UtilTerm]) -> Option<Rule>
     requires { list_all is_linear terms.now ≡ true }
     ensures { result ≡ first_broken allow_reserved (flat_map (asks_util (before_of scope.now)) terms.now) }
@@ -135,7 +135,7 @@ fn check_field(allow_reserved: bool, scope: &Scope<'_>, field: &Field) -> Option
     check_symbol(allow_reserved, scope, &field.size)
 }
 
-#[tactic(auto, using(elastic_ast::proofs::First::firsts))]
+#[tactic(auto, using(elastic_ast::proofs::Typing::First::firsts))]
 fn check_fields(allow_reserved: bool, scope: &Scope<'_>, fields: &[Field]) -> Option<Rule>
     ensures { result ≡ first_broken allow_reserved (flat_map (asks_field (before_of scope.now)) fields.now) }
 {
@@ -155,10 +155,7 @@ fn check_field_names(alloc: Global, allow_reserved: bool, fields: &[Field]) -> R
 {
     let mut names: IndexMap<&[u8], ()> = IndexMap::new(alloc);
     for field in fields {
-        match put(&mut names, field.name.as_slice(), (), allow_reserved) {
-            Ok(()) => {}
-            Err(refusal) => return Err(refusal),
-        }
+        put(&mut names, field.name.as_slice(), (), allow_reserved)?;
     }
     Ok(())
 }
@@ -195,7 +192,7 @@ pub fn check_declaration(
     scope: &Scope<'_>,
     decl: &Decl,
 ) -> Result<(), Refusal>
-    requires { is_begun (seen_decl decl.now) ≡ true }
+    requires { is_supported (seen_decl decl.now) ≡ true }
     ensures fine { OnOk result (first_broken allow_reserved (asks_decl (before_of scope.now) (seen_decl decl.now)) ≡ None) }
     ensures refused { IfErr result (λ refusal. IsRefusal refusal (first_broken allow_reserved (asks_decl (before_of scope.now) (seen_decl decl.now)))) }
 {

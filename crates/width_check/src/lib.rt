@@ -5,8 +5,6 @@ mod checking;
 mod declarations;
 mod scope;
 mod table;
-#[cfg(test)]
-mod tests;
 
 pub use checking::{CheckError, Checked, TypeError, check, program};
 pub use elastic_ast::Rule;

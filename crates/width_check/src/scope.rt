@@ -3,11 +3,11 @@
 ghost use Rattle.std.specs.Prelude.{◌≡◌, ◌<◌, ◌+◌, ◌++◌, ◌==◌, ◌||◌, true, length, OnOk, OnErr, IfErr, None, is_some};
 ghost use Rattle.std.specs.Option.{option_copied};
 ghost use Rattle.elastic_ast.specs.Seen.{seen_decl};
-ghost use Rattle.elastic_ast.specs.Scope.{is_symbol as is_symbol_of, symbol_of};
-ghost use Rattle.elastic_ast.specs.AskedOfNames.{asks_names, top_name};
-ghost use Rattle.elastic_ast.specs.Asked.{once, is_first as is_first_of};
-ghost use Rattle.width_check.specs.Begun.{is_begun};
-ghost use Rattle.elastic_ast.specs.Demand.{first_broken};
+ghost use Rattle.elastic_ast.specs.Typing.Scope.{is_symbol as is_symbol_of, symbol_of};
+ghost use Rattle.elastic_ast.specs.Typing.AskedOfNames.{asks_names, top_name};
+ghost use Rattle.elastic_ast.specs.Typing.Asked.{DeclKind, is_of_kind, is_first as is_first_of};
+ghost use Rattle.width_check.specs.Supported.{is_supported};
+ghost use Rattle.elastic_ast.specs.Typing.Demand.{first_broken};
 ghost use Rattle.width_check.specs.Table.{names_in, IsRefusal};
 ghost use Rattle.width_check.specs.Scoped.{option_list, before_of, name_broken, entries_seen, names_with};
 
@@ -76,14 +76,14 @@ fn name_of<'a>(decl: &'a Decl) -> Option<&'a Name>
 
 /// Whether the utility is declared, after one more declaration.
 fn has_utility(known: bool, decl: &Decl) -> bool
-    ensures { result ≡ (known || once (seen_decl decl.now) == 1) }
+    ensures { result ≡ (known || is_of_kind DeclKind.Utility (seen_decl decl.now)) }
 {
     known || matches!(decl, Decl::Maximize(_))
 }
 
 /// Whether the metadata are declared, after one more declaration.
 fn has_metadata(known: bool, decl: &Decl) -> bool
-    ensures { result ≡ (known || once (seen_decl decl.now) == 3) }
+    ensures { result ≡ (known || is_of_kind DeclKind.Metadata (seen_decl decl.now)) }
 {
     known || matches!(decl, Decl::Meta(_))
 }
@@ -150,7 +150,7 @@ impl<'a> Scope<'a> {
 
     /// Whether a declaration, if it may stand once in a program, is the first of its kind.
     pub fn is_first(&self, decl: &Decl) -> bool
-        requires { is_begun (seen_decl decl.now) ≡ true }
+        requires { is_supported (seen_decl decl.now) ≡ true }
         ensures { result ≡ is_first_of (before_of self.now) (seen_decl decl.now) }
     {
         let _ = &self.decls;

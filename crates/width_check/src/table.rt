@@ -1,9 +1,9 @@
 //! The names of one scope, each with what stands under it.
 
 ghost use Rattle.std.specs.Prelude.{◌≡◌, [], ◌∷◌, ◌++◌, map, IfErr, OnErr, OnOk};
-ghost use Rattle.elastic_ast.specs.Scope.{among};
-ghost use Rattle.elastic_ast.specs.Demand.{has_underscores as has_underscores_of, fixed_names, first_broken};
-ghost use Rattle.elastic_ast.specs.AskedOfNames.{asks_names};
+ghost use Rattle.elastic_ast.specs.Typing.Scope.{among};
+ghost use Rattle.elastic_ast.specs.Typing.Demand.{has_underscores as has_underscores_of, fixed_names, first_broken};
+ghost use Rattle.elastic_ast.specs.Typing.AskedOfNames.{asks_names};
 ghost use Rattle.width_check.specs.Table.{names_in, name_rule, IsRefusal};
 
 use elastic_ast::Rule;
@@ -32,7 +32,7 @@ pub fn has_underscores(name: &[u8]) -> bool
 }
 
 /// Whether a name stands for something of the language itself.
-#[tactic(auto, unfolding(elastic_ast::specs::Demand::fixed_names))]
+#[tactic(auto, unfolding(elastic_ast::specs::Typing::Demand::fixed_names))]
 pub fn is_fixed(name: &[u8]) -> bool
     ensures { result ≡ among fixed_names name.now }
 {

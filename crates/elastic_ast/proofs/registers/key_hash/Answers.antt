@@ -1,6 +1,6 @@
 use Rattle.std.proofs.Common.{rules, ◌≡◌, ◌∙◌}
-use Rattle.elastic_ast.specs.KeyHash.{index_number}
-use Rattle.elastic_ast.proofs.KeyLaws.{hash_of_parts}
+use Rattle.elastic_ast.specs.Containers.KeyHash.{index_number}
+use Rattle.elastic_ast.proofs.Containers.KeyLaws.{hash_of_parts}
 use Rattle.elastic_ast.proofs.registers.key_hash.Goals as goal
 use Rattle.elastic_ast.proofs.registers.key_hash.Goals.{in-None, in-Some}
 

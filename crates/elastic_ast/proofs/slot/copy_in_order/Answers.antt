@@ -1,5 +1,5 @@
 use Rattle.std.proofs.Common.{arith}
-use Rattle.elastic_ast.proofs.CopyLaws.{same_length, all_entries, copied_places, copied_more}
+use Rattle.elastic_ast.proofs.Containers.CopyLaws.{same_length, all_entries, copied_places, copied_more}
 use Rattle.elastic_ast.proofs.slot.copy_in_order.Goals as goal
 
 pub overwrite-requires : goal.overwrite-requires

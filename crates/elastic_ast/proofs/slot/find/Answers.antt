@@ -1,6 +1,6 @@
 use Rattle.std.proofs.Common.{rules, ◌<◌, length}
-use Rattle.elastic_ast.proofs.ChainWalk.{walk_start, walk_step, fewer_left}
-use Rattle.elastic_ast.proofs.FindLaws.{have_hash, in_slots, missed, met, nowhere}
+use Rattle.elastic_ast.proofs.Containers.ChainWalk.{walk_start, walk_step, fewer_left}
+use Rattle.elastic_ast.proofs.Containers.FindLaws.{have_hash, in_slots, missed, met, nowhere}
 use Rattle.elastic_ast.proofs.slot.find.Goals as goal
 
 pub bounds-slots-k : goal.bounds-slots-k

@@ -1,10 +1,10 @@
 use Rattle.std.proofs.Common.{◌≡◌, ◌<◌, ℕ, List, [], true, false, refl, length, get_or, sym, ap, arith, ◌∙◌}
 use Rattle.std.proofs.lemmas.List.{take_more_same}
 use Rattle.elastic_ast.specs.declared.flat.Location.{Location}
-use Rattle.elastic_ast.specs.Places.{place}
-use Rattle.elastic_ast.specs.Slots.{entries, places}
-use Rattle.elastic_ast.proofs.SlotLaws.{length_places, place_here}
-use Rattle.elastic_ast.proofs.CopyLaws.{all_places}
+use Rattle.elastic_ast.specs.Containers.LocationPlaces.{place}
+use Rattle.elastic_ast.specs.Containers.Slots.{entries, places}
+use Rattle.elastic_ast.proofs.Containers.SlotLaws.{length_places, place_here}
+use Rattle.elastic_ast.proofs.Containers.CopyLaws.{all_places}
 use Rattle.elastic_ast.proofs.slot.in_one_order.Goals as goal
 
 pub returns : goal.returns

@@ -1,6 +1,6 @@
 use Rattle.std.proofs.Common.{sym, ap}
-use Rattle.elastic_ast.proofs.SlotLaws.{entries_set}
-use Rattle.elastic_ast.specs.Slots.{slot_place}
+use Rattle.elastic_ast.proofs.Containers.SlotLaws.{entries_set}
+use Rattle.elastic_ast.specs.Containers.Slots.{slot_place}
 use Rattle.elastic_ast.proofs.slot.overwrite.Goals as goal
 
 pub returns : goal.returns

@@ -1,53 +1,35 @@
-use Rattle.spelling.proofs.Limits.{want_or, or_answers}
-use Rattle.spelling.proofs.Only.{after, after_one, named_same, wants, wants_name, wants_one}
-use Rattle.spelling.proofs.Taking.{takes_both, may}
-use Rattle.p4_declarations.proofs.SameDecls.{same_deparser}
-use Rattle.std.proofs.Common.{arith, codes}
+use Rattle.std.proofs.Common.{codes}
 use Rattle.spelling.proofs.Balance.{stays_both, stays_named, stays_reserved, stays_round}
-use Rattle.spelling.proofs.Bounds.{deep_answers, even, if_deep, stop_opens}
+use Rattle.spelling.proofs.Only.{after, after_one, named_same, wants}
+use Rattle.spelling.proofs.Taking.{may, takes_both}
 use Rattle.p4_declarations.proofs.FlatWithin.{deparser_parameters_stay}
+use Rattle.p4_declarations.proofs.SameDecls.{same_deparser}
 use Rattle.p4_declarations.specs.Flat.{SpellsDeparserParameters}
+use Rattle.spelling.proofs.ByParts.{part_deep, refused_made}
 use Rattle.p4_declarations.proofs.emits.deparser.Goals as goal
 
-pub returns-clause-taken : goal.returns-clause-taken
-returns-clause-taken c = takes_both c.in_ok-reserved.ensures.taken (takes_both c.in_ok-name.ensures.taken (takes_both c.in_ok-parameters.ensures.taken c.in_ok-emits.ensures.taken))
+pub returns-in_err-parameters : goal.returns-in_err-parameters
+returns-in_err-parameters c =
+    refused_made _ c.from_residual-in_err-parameters.ensures.1
+    (λ more of rest m. wants (after_one (after_one m c.in_ok-reserved.ensures.taken) c.in_ok-name.ensures.taken) (λ b f s. c.in_err-parameters.ensures.only more tt b f))
+    (part_deep _ _ (stays_both (stays_reserved (codes "control")) (stays_named c.in_ok-name.name)) (may (takes_both c.in_ok-reserved.ensures.taken c.in_ok-name.ensures.taken)) c.in_err-parameters.ensures.deep)
 
-pub returns-in_err-reserved-clause-only : goal.returns-in_err-reserved-clause-only
-returns-in_err-reserved-clause-only c = λ more name emits rest m.
-    or_answers _ _ _ _ _ _ c.from_residual.result c.from_residual.ensures.1 (want_or _ _ (wants_one _ _ m c.in_err-reserved.ensures.refused))
+pub returns-in_err-emits : goal.returns-in_err-emits
+returns-in_err-emits c =
+    refused_made _ c.from_residual-in_err-emits.ensures.1
+    (λ more of rest m.
+    let m3 = after (after_one (after_one m c.in_ok-reserved.ensures.taken) c.in_ok-name.ensures.taken) (λ b f s. c.in_ok-parameters.ensures.only more tt b f) in
+    c.in_err-emits.ensures.only more of.1 rest m3.1)
+    (part_deep _ _ (stays_both (stays_reserved (codes "control")) (stays_both (stays_named c.in_ok-name.name) (stays_round c.args.depth (λ _. SpellsDeparserParameters) (λ _. deparser_parameters_stay)))) (may (takes_both c.in_ok-reserved.ensures.taken (takes_both c.in_ok-name.ensures.taken c.in_ok-parameters.ensures.taken))) c.in_err-emits.ensures.deep)
 
-pub returns-in_err-name-clause-only : goal.returns-in_err-name-clause-only
-returns-in_err-name-clause-only c = λ more name emits rest m.
-    let m1 = after_one m c.in_ok-reserved.ensures.taken in
-    or_answers _ _ _ _ _ _ c.from_residual-in_err-name.result c.from_residual-in_err-name.ensures.1 (want_or _ _ (wants_name _ _ m1 c.in_err-name.ensures.refused))
-
-pub returns-in_err-parameters-clause-only : goal.returns-in_err-parameters-clause-only
-returns-in_err-parameters-clause-only c = λ more name emits rest m.
-    let m1 = after_one m c.in_ok-reserved.ensures.taken in
-    let m2 = after_one m1 c.in_ok-name.ensures.taken in
-    or_answers _ _ _ _ _ _ c.from_residual-in_err-parameters.result c.from_residual-in_err-parameters.ensures.1 (wants m2 (λ b f s. c.in_err-parameters.ensures.only more b f))
-
-pub returns-in_err-emits-clause-only : goal.returns-in_err-emits-clause-only
-returns-in_err-emits-clause-only c = λ more name emits rest m.
-    let m1 = after_one m c.in_ok-reserved.ensures.taken in
-    let m2 = after_one m1 c.in_ok-name.ensures.taken in
-    let m3 = after m2 (λ b f s. c.in_ok-parameters.ensures.only more b f) in
-    or_answers _ _ _ _ _ _ c.from_residual-in_err-emits.result c.from_residual-in_err-emits.ensures.1 (c.in_err-emits.ensures.only more emits rest m3.1)
-
-pub returns-clause-only : goal.returns-clause-only
-returns-clause-only c = λ more name emits rest m.
-    let m1 = after_one m c.in_ok-reserved.ensures.taken in
-    let m2 = after_one m1 c.in_ok-name.ensures.taken in
-    let m3 = after m2 (λ b f s. c.in_ok-parameters.ensures.only more b f) in
-    let m4 = c.in_ok-emits.ensures.only more emits rest m3.1 in
-    (same_deparser (named_same m1 c.in_ok-name.ensures.taken) m4.0, m4.1)
-
-pub returns-in_err-parameters-clause-deep : goal.returns-in_err-parameters-clause-deep
-returns-in_err-parameters-clause-deep c =
-    let front = even c.args.depth (stays_both (stays_reserved (codes "control")) (stays_named c.in_ok-name.name)) (may (takes_both c.in_ok-reserved.ensures.taken c.in_ok-name.ensures.taken)) in
-    deep_answers _ _ c.from_residual-in_err-parameters.result c.from_residual-in_err-parameters.ensures.1 (if_deep c.in_err-parameters.field-0.0 (λ s. stop_opens c.args.depth 0 c.args.depth (omega arith) front s) c.in_err-parameters.ensures.deep)
-
-pub returns-in_err-emits-clause-deep : goal.returns-in_err-emits-clause-deep
-returns-in_err-emits-clause-deep c =
-    let front = even c.args.depth (stays_both (stays_reserved (codes "control")) (stays_both (stays_named c.in_ok-name.name) (stays_round c.args.depth (λ _. SpellsDeparserParameters) (λ _. deparser_parameters_stay)))) (may (takes_both c.in_ok-reserved.ensures.taken (takes_both c.in_ok-name.ensures.taken c.in_ok-parameters.ensures.taken))) in
-    deep_answers _ _ c.from_residual-in_err-emits.result c.from_residual-in_err-emits.ensures.1 (if_deep c.in_err-emits.field-0.0 (λ s. stop_opens c.args.depth 0 c.args.depth (omega arith) front s) c.in_err-emits.ensures.deep)
+pub returns : goal.returns
+returns c =
+    record {
+      taken = takes_both c.in_ok-reserved.ensures.taken (takes_both c.in_ok-name.ensures.taken (takes_both c.in_ok-parameters.ensures.taken c.in_ok-emits.ensures.taken));
+      only = λ more of rest m.
+          let m1 = after_one m c.in_ok-reserved.ensures.taken in
+          let m3 = after (after_one m1 c.in_ok-name.ensures.taken) (λ b f s. c.in_ok-parameters.ensures.only more tt b f) in
+          let m4 = c.in_ok-emits.ensures.only more of.1 rest m3.1 in
+          (same_deparser (named_same m1 c.in_ok-name.ensures.taken) m4.0, m4.1);
+      deep = tt;
+    }

@@ -1,27 +1,10 @@
-use Rattle.std.proofs.Common.{sym, refl, subst, codes}
-use Rattle.spelling.specs.Grammar.{Begins, IsSign}
-use Rattle.spelling.proofs.Only.{after, not_there, want_answers, wants}
-use Rattle.spelling.proofs.Taking.{may, each_more}
-use Rattle.spelling.proofs.Whole.{left_more, none_left, one_left}
+use Rattle.std.proofs.Common.{codes, rules}
 use Rattle.p4_declarations.specs.Flat.{SpellsHeaderField}
 use Rattle.p4_declarations.proofs.FieldSpelling.{header_field_no_sign}
+use Rattle.p4_declarations.proofs.FlatWithin.{header_field_stays}
+use Rattle.spelling.proofs.ByParts.{up_to, words_within}
 use Rattle.p4_declarations.proofs.fields.header_fields.Goals as goal
 
-pub fields-preserved : goal.fields-preserved
-fields-preserved c =
-    record {
-      taken = rw c.in_ok-keep.ensures.ok (each_more SpellsHeaderField c.fields.fields c.in_ok-field.field c.fields.invariant.taken (may c.in_ok-field.ensures.taken));
-      only = λ all rest m ends.
-          let n = one_left (c.fields.invariant.only all rest m ends) (λ e. not_there c.fields-test.ensures.1 (subst (Begins (IsSign (codes "}"))) (sym e) ends)) in
-          let r = after n.ahead (λ b f s. c.in_ok-field.ensures.only n.one b f) in
-          left_more n c.in_ok-keep.ensures.ok r.0 r.1;
-    }
-
-pub returns-in_err-field-clause-only : goal.returns-in_err-field-clause-only
-returns-in_err-field-clause-only c = λ all rest m ends.
-    let n = one_left (c.fields.invariant.only all rest m ends) (λ e. not_there c.fields-test.ensures.1 (subst (Begins (IsSign (codes "}"))) (sym e) ends)) in
-    want_answers _ _ _ _ _ c.from_residual.result c.from_residual.ensures.1 (wants n.ahead (λ b f s. c.in_err-field.ensures.only n.one b f))
-
-pub returns-clause-only : goal.returns-clause-only
-returns-clause-only c = λ all rest m ends.
-    none_left (c.fields.invariant.only all rest m ends) (λ one later f. header_field_no_sign one (codes "}") f (c.fields-test.ensures.0 refl))
+pub returns : goal.returns
+returns c = λ depth.
+    up_to {Of = λ _. SpellsHeaderField} record { none = λ more one later a b m at. header_field_no_sign one (codes "}") m at } (λ x. header_field_stays x) (λ old new r call. words_within (search rules)) c.until.ensures

@@ -1,7 +1,20 @@
-use Rattle.std.proofs.Common.{arith}
-use Rattle.spelling.proofs.Only.{alone, want_answers, wants_number}
+use Rattle.std.proofs.Common.{arith, rules}
+use Rattle.spelling.proofs.Bounds.{refused_deep}
+use Rattle.spelling.proofs.Only.{alone, fact_of, of_where, wants_number}
+use Rattle.spelling.proofs.Refusals.{refused_reads}
+use Rattle.spelling.proofs.Taking.{takes_where}
 use Rattle.p4_declarations.proofs.gains.number.Goals as goal
 
-pub returns-in_err-number-clause-only : goal.returns-in_err-number-clause-only
-returns-in_err-number-clause-only c = λ value rest fits m.
-    want_answers _ _ _ _ _ c.from_residual.result c.from_residual.ensures.1 (wants_number _ _ (omega (arith, fits)) (alone m) c.in_err-number.ensures.refused)
+pub returns-in_err-number : goal.returns-in_err-number
+returns-in_err-number c =
+    refused_reads _ c.from_residual.ensures.1
+    (λ value rest m. let fits = fact_of m in wants_number _ _ (omega (arith, fits)) (alone (of_where m)) c.in_err-number.ensures.refused)
+    (refused_deep _ _ _ _ c.in_err-number.ensures.refused)
+
+pub returns : goal.returns
+returns c =
+    record {
+      taken = takes_where (omega (arith, c.in_ok-number.ensures.within)) c.in_ok-number.ensures.taken;
+      only = search rules;
+      shallow = tt;
+    }

@@ -1,31 +1,8 @@
-use Rattle.std.proofs.Common.{[], ◌∷◌, refl, codes}
-use Rattle.spelling.specs.Grammar.{Separated, Sign}
-use Rattle.spelling.proofs.Limits.{want_or, or_answers, opens_or, past_opening}
-use Rattle.spelling.proofs.Only.{after, alone, begins, ends_sign, same_end, wants, wants_one}
-use Rattle.spelling.proofs.Taking.{may, takes_bracketed}
-use Rattle.p4_declarations.specs.Flat.{SpellsStep}
+use Rattle.std.proofs.Common.{refl, rules}
+use Rattle.spelling.specs.Readers.{ClosesNext}
+use Rattle.spelling.proofs.ByParts.{around}
+use Rattle.spelling.proofs.InLines.{before_up_to}
 use Rattle.p4_declarations.proofs.gains.steps_pairs.Goals as goal
 
-pub returns-clause-taken : goal.returns-clause-taken
-returns-clause-taken c = takes_bracketed _ _ c.args.depth c.in_ok-_inner._inner (λ _. Separated (Sign (codes ",")) SpellsStep c.in_ok-pairs.pairs) c.in_ok-_inner.ensures.depth c.in_ok-_inner.ensures.taken (may c.in_ok-pairs.ensures.taken) c.in_ok-sign.ensures.taken
-
-pub returns-in_err-_inner-clause-only : goal.returns-in_err-_inner-clause-only
-returns-in_err-_inner-clause-only c = λ more steps rest m.
-    or_answers _ _ _ _ _ _ c.from_residual.result c.from_residual.ensures.1 (opens_or (codes "{") (codes "}") more c.args.depth (λ _. Separated (Sign (codes ",")) SpellsStep steps) _ _ _ (λ few. few) m c.in_err-_inner.ensures.refused)
-
-pub returns-in_err-pairs-clause-only : goal.returns-in_err-pairs-clause-only
-returns-in_err-pairs-clause-only c = λ more steps rest m.
-    let i = past_opening (codes "{") (codes "}") more c.args.depth c.in_ok-_inner._inner (λ _. Separated (Sign (codes ",")) SpellsStep steps) c.in_ok-_inner.ensures.depth c.in_ok-_inner.ensures.taken m in
-    or_answers _ _ _ _ _ _ c.from_residual-in_err-pairs.result c.from_residual-in_err-pairs.ensures.1 (want_or _ _ (wants i.parts (λ b f s. c.in_err-pairs.ensures.only steps b f (ends_sign (codes "," ∷ []) (codes "}") b refl (begins s)))))
-
-pub returns-in_err-sign-clause-only : goal.returns-in_err-sign-clause-only
-returns-in_err-sign-clause-only c = λ more steps rest m.
-    let i = past_opening (codes "{") (codes "}") more c.args.depth c.in_ok-_inner._inner (λ _. Separated (Sign (codes ",")) SpellsStep steps) c.in_ok-_inner.ensures.depth c.in_ok-_inner.ensures.taken m in
-    let m2 = after i.parts (λ b f s. c.in_ok-pairs.ensures.only steps b f (ends_sign (codes "," ∷ []) (codes "}") b refl (begins s))) in
-    or_answers _ _ _ _ _ _ c.from_residual-in_err-sign.result c.from_residual-in_err-sign.ensures.1 (want_or _ _ (wants_one _ _ (alone m2.1) c.in_err-sign.ensures.refused))
-
-pub returns-clause-only : goal.returns-clause-only
-returns-clause-only c = λ more steps rest m.
-    let i = past_opening (codes "{") (codes "}") more c.args.depth c.in_ok-_inner._inner (λ _. Separated (Sign (codes ",")) SpellsStep steps) c.in_ok-_inner.ensures.depth c.in_ok-_inner.ensures.taken m in
-    let m2 = after i.parts (λ b f s. c.in_ok-pairs.ensures.only steps b f (ends_sign (codes "," ∷ []) (codes "}") b refl (begins s))) in
-    (m2.0, same_end m2.1 c.in_ok-sign.ensures.taken)
+pub returns : goal.returns
+returns c = around refl (λ inner old new r call. before_up_to {Follows = ClosesNext} (λ ws at. at) (search rules)) c.in_brackets.ensures

@@ -1,37 +1,34 @@
-use Rattle.std.proofs.Common.{ap, arith, codes}
+use Rattle.std.proofs.Common.{ap, codes}
 use Rattle.elastic_ast.specs.Tree.{PlainDecl}
-use Rattle.spelling.proofs.Limits.{want_or, or_answers}
-use Rattle.spelling.proofs.Only.{after, after_one, alone, same_end, wants, wants_one}
-use Rattle.spelling.proofs.Taking.{takes_both, may}
 use Rattle.spelling.proofs.Balance.{stays_named}
-use Rattle.spelling.proofs.Bounds.{deep_answers, even, if_deep, stop_opens}
+use Rattle.spelling.proofs.Bounds.{refused_deep}
+use Rattle.spelling.proofs.ByParts.{part_deep, refused_made}
+use Rattle.spelling.proofs.Limits.{want_or}
+use Rattle.spelling.proofs.Only.{after, after_one, alone, same_end, wants, wants_one}
+use Rattle.spelling.proofs.Taking.{may, takes_both}
 use Rattle.p4_declarations.proofs.symbols.assume.Goals as goal
 
-pub returns-clause-taken : goal.returns-clause-taken
-returns-clause-taken c = takes_both c.in_ok-fixed_name.ensures.taken (takes_both c.in_ok-comps.ensures.taken c.in_ok-sign.ensures.taken)
+pub returns-in_err-comps : goal.returns-in_err-comps
+returns-in_err-comps c =
+    refused_made _ c.from_residual-in_err-comps.ensures.1
+    (λ more of rest m.
+    wants (after_one m c.in_ok-fixed_name.ensures.taken) (λ b f s. c.in_err-comps.ensures.only more of b f))
+    (part_deep _ _ (stays_named (codes "assume")) (may c.in_ok-fixed_name.ensures.taken) c.in_err-comps.ensures.deep)
 
-pub returns-in_err-fixed_name-clause-only : goal.returns-in_err-fixed_name-clause-only
-returns-in_err-fixed_name-clause-only c = λ more comps rest m.
-    or_answers _ _ _ _ _ _ c.from_residual.result c.from_residual.ensures.1 (want_or _ _ (wants_one _ _ m c.in_err-fixed_name.ensures.refused))
+pub returns-in_err-sign : goal.returns-in_err-sign
+returns-in_err-sign c =
+    refused_made _ c.from_residual-in_err-sign.ensures.1
+    (λ more of rest m.
+    let m2 = after (after_one m c.in_ok-fixed_name.ensures.taken) (λ b f s. c.in_ok-comps.ensures.only more of b f) in
+    want_or _ _ (wants_one _ _ (alone m2.1) c.in_err-sign.ensures.refused))
+    (refused_deep _ _ _ _ c.in_err-sign.ensures.refused)
 
-pub returns-in_err-comps-clause-only : goal.returns-in_err-comps-clause-only
-returns-in_err-comps-clause-only c = λ more comps rest m.
-    let m1 = after_one m c.in_ok-fixed_name.ensures.taken in
-    or_answers _ _ _ _ _ _ c.from_residual-in_err-comps.result c.from_residual-in_err-comps.ensures.1 (wants m1 (λ b f s. c.in_err-comps.ensures.only more comps b f))
-
-pub returns-in_err-sign-clause-only : goal.returns-in_err-sign-clause-only
-returns-in_err-sign-clause-only c = λ more comps rest m.
-    let m1 = after_one m c.in_ok-fixed_name.ensures.taken in
-    let m2 = after m1 (λ b f s. c.in_ok-comps.ensures.only more comps b f) in
-    or_answers _ _ _ _ _ _ c.from_residual-in_err-sign.result c.from_residual-in_err-sign.ensures.1 (want_or _ _ (wants_one _ _ (alone m2.1) c.in_err-sign.ensures.refused))
-
-pub returns-clause-only : goal.returns-clause-only
-returns-clause-only c = λ more comps rest m.
-    let m1 = after_one m c.in_ok-fixed_name.ensures.taken in
-    let m2 = after m1 (λ b f s. c.in_ok-comps.ensures.only more comps b f) in
-    (ap PlainDecl.Assume m2.0, same_end m2.1 c.in_ok-sign.ensures.taken)
-
-pub returns-in_err-comps-clause-deep : goal.returns-in_err-comps-clause-deep
-returns-in_err-comps-clause-deep c =
-    let front = even c.args.depth (stays_named (codes "assume")) (may c.in_ok-fixed_name.ensures.taken) in
-    deep_answers _ _ c.from_residual-in_err-comps.result c.from_residual-in_err-comps.ensures.1 (if_deep c.in_err-comps.field-0.0 (λ s. stop_opens c.args.depth 0 c.args.depth (omega arith) front s) c.in_err-comps.ensures.deep)
+pub returns : goal.returns
+returns c =
+    record {
+      taken = takes_both c.in_ok-fixed_name.ensures.taken (takes_both c.in_ok-comps.ensures.taken c.in_ok-sign.ensures.taken);
+      only = λ more of rest m.
+          let m2 = after (after_one m c.in_ok-fixed_name.ensures.taken) (λ b f s. c.in_ok-comps.ensures.only more of b f) in
+          (ap PlainDecl.Assume m2.0, same_end m2.1 c.in_ok-sign.ensures.taken);
+      deep = tt;
+    }

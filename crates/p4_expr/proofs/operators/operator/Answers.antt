@@ -1,5 +1,5 @@
 use Rattle.std.proofs.Common.{refl, ◌∙◌}
-use Rattle.elastic_ast.specs.Operators.{Or, And, Equal, Differ, Less, AtMost, Greater, AtLeast, BitOr, BitXor, BitAnd, ShiftUp, ShiftDown, Plus, Minus, Join, Times, Turn, Negate}
+use Rattle.elastic_ast.specs.OperatorSorts.{Or, And, Equal, Differ, Less, AtMost, Greater, AtLeast, BitOr, BitXor, BitAnd, ShiftUp, ShiftDown, Plus, Minus, Join, Times, Turn, Negate}
 use Rattle.p4_expr.proofs.OperatorSigns.{passes, stayed}
 use Rattle.p4_expr.proofs.operators.operator.Goals as goal
 

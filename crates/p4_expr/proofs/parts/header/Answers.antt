@@ -1,5 +1,6 @@
+use Rattle.std.proofs.Common.{rules}
 use Rattle.spelling.proofs.Taking.{takes_both}
 use Rattle.p4_expr.proofs.parts.header.Goals as goal
 
-pub returns-clause-taken : goal.returns-clause-taken
-returns-clause-taken c = takes_both c.in_ok-fixed_name.ensures.taken (takes_both c.in_ok-sign.ensures.taken c.in_ok-name.ensures.taken)
+pub returns : goal.returns
+returns c = record { taken = takes_both c.in_ok-fixed_name.ensures.taken (takes_both c.in_ok-sign.ensures.taken c.in_ok-name.ensures.taken); only = search rules; shallow = tt }

@@ -1,6 +1,6 @@
 use Rattle.std.proofs.Common.{ap, ◌∙◌}
 use Rattle.elastic_ast.specs.Seen.{seen_expr}
-use Rattle.elastic_ast.specs.SeenLaws.{seen_expr-slice}
+use Rattle.elastic_ast.proofs.SeenLaws.{seen_expr-slice}
 use Rattle.elastic_ast.specs.Tree.{PlainExpr}
 use Rattle.p4_expr.proofs.pieces.slice.Goals as goal
 

@@ -24,6 +24,9 @@ use Rattle.p4_expr.proofs.Refusing.{hash_not_bracketed, none_bracketed, too_deep
 use Rattle.p4_expr.proofs.Slices.{sliced}
 use Rattle.p4_expr.proofs.SlicesLeft.{base_primary, ends_base, next_slice, no_slice, primary_ahead, slice_count, sliced_within, takes_slice}
 use Rattle.p4_expr.proofs.StepsLeft.{binary_count, built_within, ends_before, ends_below, next_operand, no_step, passes_stands, takes_binary, takes_stronger}
+use Rattle.std.specs.Prelude.{IfOk}
+use Rattle.p4_expr.specs.Standing.{GoesNoFurther}
+use Rattle.p4_expr.proofs.GoingOn.{further_below, further_none}
 use Rattle.p4_expr.proofs.reading.+expressions.Goals as goal
 
 pub base-returns-in-Bracketed-clause-only : goal.base-returns-in-Bracketed-clause-only
@@ -194,6 +197,7 @@ level-operators-init t c =
     record {
       taken = takes_stronger c.args.depth c.args.level (c.args.level - 1) (seen_expr c.in_ok-e.e) is c.in_ok-e.ensures.taken;
       count = c.in_ok-e.ensures.count;
+      below = c.in_ok-e.ensures.whole;
       only = λ more e rest m ends.
           let l = level_ahead more c.args.level (c.args.level - 1) e _ rest is m in
           let r = after l.ahead (λ b f s. c.in_ok-e.ensures.only more l.first b f (ends_below more c.args.level (c.args.level - 1) l.steps is s ends)) in
@@ -227,6 +231,7 @@ level-operators-preserved t c =
           subst (λ e. Takes (SpellsLevel c.args.depth c.args.level e) (ahead c.args.reader.now) (ahead c.level-in-operators.new.reader)) (sym c.in_ok-e-2.ensures.made)
           (takes_binary c.args.depth c.args.level (c.args.level - 1) c.in-Some.op (seen_expr c.operators.e) (seen_expr c.in_ok-right.right) is c.operators.invariant.taken (subst (λ a. Passes c.args.level c.in-Some.op a (ahead c.operator.new.reader)) c.later-behind.ensures c.in-Some.ensures.taken) c.in_ok-right.ensures.taken);
       count = counted (PlainExpr.Binary c.in-Some.op (seen_expr c.operators.e) (seen_expr c.in_ok-right.right)) c.args.left (operators_in (seen_expr c.operators.e) + operators_in (seen_expr c.in_ok-right.right) + 1) c.in_ok-right.fewer c.in_ok-e-2.ensures.made (binary_count c.in-Some.op (seen_expr c.operators.e) (seen_expr c.in_ok-right.right)) (omega (arith, c.operators.invariant.count, c.in_ok-right.ensures.count, c.if-left-eq0.false));
+      below = c.in_ok-right.ensures.whole;
       only = λ more e rest m ends.
           let above : 0 < c.args.level = omega (arith, c.if-level-eq0.false) in
           let n = next_operand more c.args.level (c.args.level - 1) c.in-Some.op (seen_expr c.operators.e) e (c.operators.invariant.only more e rest m ends) above ends (subst (λ a. Passes c.args.level c.in-Some.op a (ahead c.operator.new.reader)) c.later-behind.ensures c.in-Some.ensures.taken) in
@@ -336,7 +341,7 @@ pub primary-returns-in_err-high-clause-only : goal.primary-returns-in_err-high-c
 primary-returns-in_err-high-clause-only t c = λ more e rest m ends.
     let n = next_slice more (seen_expr c.slices.e) e (c.slices.invariant.only more e rest m ends) (c.slices-test.ensures.0 refl).0 ends.slice in
     or_answers _ _ _ _ _ _ c.from_residual-in_err-high.result c.from_residual-in_err-high.ensures.1
-    (or_as ((more ≤ c.args.depth) × (operators_in e ≤ c.args.left)) (more ≤ c.args.depth) c.in_err-high.field-0.0 (λ few. few.0) (wants n.ahead (λ b f s. c.in_err-high.ensures.only more n.high n.low b f)))
+    (or_as ((more ≤ c.args.depth) × (operators_in e ≤ c.args.left)) (more ≤ c.args.depth) c.in_err-high.field-0.0 (λ few. few.0) (wants n.ahead (λ b f s. c.in_err-high.ensures.only more (n.high, n.low) b f)))
 
 pub primary-slices-preserved : goal.primary-slices-preserved
 primary-slices-preserved t c = record {
@@ -346,7 +351,7 @@ primary-slices-preserved t c = record {
   count = counted (PlainExpr.Slice (seen_expr c.slices.e) c.in_ok-high.high c.in_ok-high.low) c.args.left (operators_in (seen_expr c.slices.e) + 1) (c.slices.left - 1) c.in_ok-e-2.ensures.made (slice_count (seen_expr c.slices.e) c.in_ok-high.high c.in_ok-high.low) (omega (arith, c.slices.invariant.count, c.if-left-eq0.false));
   only = λ more e rest m ends.
       let n = next_slice more (seen_expr c.slices.e) e (c.slices.invariant.only more e rest m ends) (c.slices-test.ensures.0 refl).0 ends.slice in
-      let r = after n.ahead (λ b f s. c.in_ok-high.ensures.only more n.high n.low b f) in
+      let r = after n.ahead (λ b f s. c.in_ok-high.ensures.only more (n.high, n.low) b f) in
       record {
         slices = n.later;
         whole = n.whole ∙ ap (λ bits. sliced (PlainExpr.Slice (seen_expr c.slices.e) bits.0 bits.1) n.later) (sym r.0) ∙ ap (λ x. sliced x n.later) (sym c.in_ok-e-2.ensures.made);
@@ -404,3 +409,13 @@ primary-returns-then-left-eq0-clause-deep t c =
 pub primary-returns-in_err-high-clause-deep : goal.primary-returns-in_err-high-clause-deep
 primary-returns-in_err-high-clause-deep t c =
     deep_answers _ _ c.from_residual-in_err-high.result c.from_residual-in_err-high.ensures.1 (if_deep c.in_err-high.field-0.0 (λ s. inl (stop_line c.args.depth 0 c.args.depth (omega arith) (in_line {Of = SpellsPrimary c.args.depth (seen_expr c.slices.e)} c.args.depth (λ ws h. primary_within h) (primary_line c.args.depth (seen_expr c.slices.e)) (may c.slices.invariant.taken)) s)) c.in_err-high.ensures.deep)
+
+pub level-returns-then-level-eq0-clause-whole : goal.level-returns-then-level-eq0-clause-whole
+level-returns-then-level-eq0-clause-whole t c = subst (λ l. IfOk c.prefixed.result (λ _. GoesNoFurther l (ahead c.prefixed.new.reader))) (sym c.if-level-eq0.true) c.prefixed.ensures.whole
+
+pub level-returns-in_default-clause-whole : goal.level-returns-in_default-clause-whole
+level-returns-in_default-clause-whole t c =
+    further_below c.args.level (c.args.level - 1) (ahead c.operators.reader) (omega (arith, c.if-level-eq0.false)) c.operators.invariant.below (subst (NoneStands c.args.level) c.later-behind.ensures (c.in_default.ensures.none refl))
+
+pub primary-returns-clause-whole : goal.primary-returns-clause-whole
+primary-returns-clause-whole t c = further_none _ (not_there c.slices-test.ensures.1)

@@ -5,7 +5,7 @@ use Rattle.spelling.specs.Words.{Word}
 use Rattle.spelling.specs.Reading.{ahead, Takes, MayTake}
 use Rattle.p4_expr.specs.Operators.{operators_in}
 use Rattle.p4_expr.specs.Expressions.{SpellsLevel, SpellsPrimary}
-use Rattle.p4_expr.specs.Standing.{EndsLevel}
+use Rattle.p4_expr.specs.Standing.{EndsLevel, GoesNoFurther}
 use Rattle.p4_expr.proofs.StepsLeft.{StepsLeft}
 use Rattle.p4_expr.proofs.SlicesLeft.{SlicesLeft}
 use Rattle.p4_expr.proofs.reading.+expressions.Given as goal
@@ -32,6 +32,7 @@ abbrev pub invariant-level-operators : goal.invariant-level-operators
 invariant-level-operators l = record {
   taken : Takes (SpellsLevel l.depth l.level (seen_expr l.e)) (ahead l.fn.reader) (ahead l.reader);
   count : l.fn.left ≡ operators_in (seen_expr l.e) + l.left;
+  below : GoesNoFurther (l.level - 1) (ahead l.reader);
   only : (more : ℕ) (e : PlainExpr) (rest : List Word) → MayTake (SpellsLevel more l.level e) (ahead l.fn.reader) rest → EndsLevel l.level rest → StepsLeft more l.level (l.level - 1) (seen_expr l.e) e (ahead l.reader) rest;
 }
 

@@ -6,7 +6,9 @@ use Rattle.spelling.specs.Bounds.{IfTooDeepAt, PassedAt}
 use Rattle.spelling.proofs.Limits.{or_same}
 use Rattle.spelling.proofs.Places.{named_deep, passed_at, place_behind}
 use Rattle.p4_expr.specs.Expressions.{SpellsExpr, most_operators}
+use Rattle.p4_expr.specs.Operators.{weakest}
 use Rattle.p4_expr.specs.Passing.{ExprPassed}
+use Rattle.p4_expr.specs.Standing.{GoesNoFurther}
 use Rattle.p4_expr.proofs.PassingLaws.{passed_front}
 use Rattle.p4_expr.proofs.reading.expr.Goals as goal
 
@@ -38,3 +40,9 @@ returns-in-Err-clause-deep c =
     let t = subst (λ a. passed a after) c.from-reader.ensures s in
     let f = passed_front t in
     passed_at passed c.args.text.now c.args.tokens.now c.args.at f.0 after f.1 t) c.within.ensures.same at c.in-Err.ensures.deep
+
+pub returns-in-Ok-clause-whole : goal.returns-in-Ok-clause-whole
+returns-in-Ok-clause-whole c =
+    let t = subst (λ a. Takes (SpellsExpr c.args.most_depth (seen_expr c.in-Ok.e)) a (ahead c.read_expr.new.reader)) c.from-reader.ensures c.in-Ok.ensures.taken in
+    let end = ap (λ n. words c.args.text.now (drop (length c.args.tokens.now - n) c.args.tokens.now)) c.left.ensures ∙ place_behind c.args.text.now c.args.tokens.now c.args.at t.front (ahead c.read_expr.new.reader) t.joined in
+    subst (GoesNoFurther weakest) (sym end) c.in-Ok.ensures.whole

@@ -1,7 +1,7 @@
 use Rattle.std.proofs.Common.{◌≡◌, ◌≤◌, ap, arith, subst, sym, ◌∙◌}
 use Rattle.elastic_ast.specs.declared.statements.Expr.TheVariants as expr
 use Rattle.p4_expr.specs.Operators.{operators_in}
-use Rattle.elastic_ast.specs.SeenLaws.{seen_expr-num, seen_expr-bool, seen_expr-named, seen_expr-field}
+use Rattle.elastic_ast.proofs.SeenLaws.{seen_expr-num, seen_expr-bool, seen_expr-named, seen_expr-field}
 use Rattle.elastic_ast.specs.Seen.{seen_expr}
 use Rattle.elastic_ast.specs.Tree.{PlainExpr}
 use Rattle.spelling.specs.Reading.{Takes, IsReading, IsWant, WantsOr, ahead}
@@ -46,13 +46,13 @@ returns-in_ok-place-in-Place-clause-count c =
 
 pub returns-in_err-width-in-Number-clause-only : goal.returns-in_err-width-in-Number-clause-only
 returns-in_err-width-in-Number-clause-only c = λ more e rest m ends is no.
-    or_answers _ _ _ _ _ _ c.from_residual.result c.from_residual.ensures.1 (want_or _ _ (number_there (λ e. IsWant c.in_err-width-in-Number.field-0.0) more e (sym c.in-Number.is ∙ is) m (λ width value n. c.in_err-width-in-Number.ensures.only width value rest n)))
+    or_answers _ _ _ _ _ _ c.from_residual.result c.from_residual.ensures.1 (want_or _ _ (number_there (λ e. IsWant c.in_err-width-in-Number.field-0.0) more e (sym c.in-Number.is ∙ is) m (λ width value n. c.in_err-width-in-Number.ensures.only (width, value) rest n)))
 
 pub returns-in_ok-width-in-Number-clause-only : goal.returns-in_ok-width-in-Number-clause-only
 returns-in_ok-width-in-Number-clause-only c = λ more e rest m ends is no.
     number_there (λ e. (seen_expr (expr.Num c.in_ok-width-in-Number.width c.in_ok-width-in-Number.value) ≡ e) × (ahead c.number.new.reader ≡ rest)) more e (sym c.in-Number.is ∙ is) m
     (λ width value n.
-    let r = c.in_ok-width-in-Number.ensures.only width value rest n in
+    let r = c.in_ok-width-in-Number.ensures.only (width, value) rest n in
     (seen_expr-num c.in_ok-width-in-Number.width c.in_ok-width-in-Number.value ∙ ap (λ p. PlainExpr.Num p.0 p.1) r.0, r.1))
 
 pub returns-in_err-which-in-Truth-clause-only : goal.returns-in_err-which-in-Truth-clause-only

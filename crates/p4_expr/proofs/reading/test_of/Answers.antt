@@ -1,5 +1,5 @@
 use Rattle.std.proofs.Common.{◌-◌, ap, arith, inr, subst, sym, ◌∙◌}
-use Rattle.elastic_ast.specs.SeenLaws.{seen_expr-valid}
+use Rattle.elastic_ast.proofs.SeenLaws.{seen_expr-valid}
 use Rattle.elastic_ast.specs.Tree.{PlainExpr}
 use Rattle.spelling.specs.Reading.{Takes, ahead}
 use Rattle.spelling.proofs.Limits.{or_answers, or_as}

@@ -1,54 +1,15 @@
-use Rattle.std.proofs.Common.{codes, ap, arith, refl}
-use Rattle.elastic_ast.specs.Seen.{seen_stmts}
-use Rattle.spelling.proofs.Limits.{opens_or, or_answers, or_as, past_opening, want_or}
-use Rattle.spelling.proofs.Only.{after, after_one, alone, begins, same_end, wants, wants_one}
-use Rattle.spelling.proofs.Taking.{takes_both, takes_bracketed, may}
-use Rattle.spelling.specs.Reading.{ahead}
-use Rattle.spelling.proofs.Bounds.{deep_answers, even, if_deep, none_open, one_open, opens_then, stop_open, stop_opens}
-use Rattle.spelling.proofs.Balance.{stays_named}
 use Rattle.p4_statements.specs.Statements.{SpellsStmts}
-use Rattle.p4_parser.proofs.Reaching.{reaches_stop, reaches_within}
+use Rattle.elastic_ast.specs.Seen.{seen_stmts}
+use Rattle.spelling.proofs.Balance.{stays_named}
+use Rattle.std.proofs.Common.{arith, codes, refl, rules}
+use Rattle.spelling.proofs.Bounds.{even}
+use Rattle.p4_statements.proofs.FewReading.{behind_few}
+use Rattle.p4_statements.specs.Reading.{HaveFew}
+use Rattle.p4_parser.proofs.Reaching.{passes_apply, reaches_past}
+use Rattle.spelling.proofs.ByParts.{around_few}
 use Rattle.p4_parser.proofs.controls.apply_block.Goals as goal
 
-pub returns-clause-taken : goal.returns-clause-taken
-returns-clause-taken c = takes_both c.in_ok-fixed_name.ensures.taken (takes_bracketed _ _ c.args.depth c.in_ok-inner.inner (λ inner. SpellsStmts inner (seen_stmts c.in_ok-stmts.stmts)) c.in_ok-inner.ensures.depth c.in_ok-inner.ensures.taken c.in_ok-stmts.ensures.taken c.in_ok-sign.ensures.taken)
-
-pub returns-in_err-fixed_name-clause-only : goal.returns-in_err-fixed_name-clause-only
-returns-in_err-fixed_name-clause-only c = λ more stmts rest m.
-    or_answers _ _ _ _ _ _ c.from_residual.result c.from_residual.ensures.1 (want_or _ _ (wants_one _ _ m c.in_err-fixed_name.ensures.refused))
-
-pub returns-in_err-inner-clause-only : goal.returns-in_err-inner-clause-only
-returns-in_err-inner-clause-only c = λ more stmts rest m.
-    let m1 = after_one m c.in_ok-fixed_name.ensures.taken in
-    or_answers _ _ _ _ _ _ c.from_residual-in_err-inner.result c.from_residual-in_err-inner.ensures.1 (opens_or (codes "{") (codes "}") more c.args.depth (λ inner. SpellsStmts inner stmts) _ _ _ (λ few. few.0) m1 c.in_err-inner.ensures.refused)
-
-pub returns-in_err-stmts-clause-only : goal.returns-in_err-stmts-clause-only
-returns-in_err-stmts-clause-only c = λ more stmts rest m.
-    let m1 = after_one m c.in_ok-fixed_name.ensures.taken in
-    let i = past_opening (codes "{") (codes "}") more c.args.depth c.in_ok-inner.inner (λ inner. SpellsStmts inner stmts) c.in_ok-inner.ensures.depth c.in_ok-inner.ensures.taken m1 in
-    or_answers _ _ _ _ _ _ c.from_residual-in_err-stmts.result c.from_residual-in_err-stmts.ensures.1 (wants i.parts (λ b f s. or_as _ _ _ (λ few. (i.fewer few.0, few.1)) (c.in_err-stmts.ensures.only i.within stmts b f (begins s))))
-
-pub returns-in_err-sign-clause-only : goal.returns-in_err-sign-clause-only
-returns-in_err-sign-clause-only c = λ more stmts rest m.
-    let m1 = after_one m c.in_ok-fixed_name.ensures.taken in
-    let i = past_opening (codes "{") (codes "}") more c.args.depth c.in_ok-inner.inner (λ inner. SpellsStmts inner stmts) c.in_ok-inner.ensures.depth c.in_ok-inner.ensures.taken m1 in
-    let m2 = after i.parts (λ b f s. c.in_ok-stmts.ensures.only i.within stmts b f (begins s)) in
-    or_answers _ _ _ _ _ _ c.from_residual-in_err-sign.result c.from_residual-in_err-sign.ensures.1 (want_or _ _ (wants_one _ _ (alone m2.1) c.in_err-sign.ensures.refused))
-
-pub returns-clause-only : goal.returns-clause-only
-returns-clause-only c = λ more stmts rest m.
-    let m1 = after_one m c.in_ok-fixed_name.ensures.taken in
-    let i = past_opening (codes "{") (codes "}") more c.args.depth c.in_ok-inner.inner (λ inner. SpellsStmts inner stmts) c.in_ok-inner.ensures.depth c.in_ok-inner.ensures.taken m1 in
-    let m2 = after i.parts (λ b f s. c.in_ok-stmts.ensures.only i.within stmts b f (begins s)) in
-    (m2.0, same_end m2.1 c.in_ok-sign.ensures.taken)
-
-pub returns-in_err-inner-clause-deep : goal.returns-in_err-inner-clause-deep
-returns-in_err-inner-clause-deep c =
-    let named = even c.args.depth (stays_named (codes "apply")) (may c.in_ok-fixed_name.ensures.taken) in
-    deep_answers _ _ c.from_residual-in_err-inner.result c.from_residual-in_err-inner.ensures.1 (if_deep c.in_err-inner.field-0.0 (λ s. reaches_stop (stop_opens c.args.depth 0 c.args.depth (omega arith) named s)) (stop_open c.args.depth (codes "{") _ c.in_err-inner.field-0.0 refl none_open (ap ahead c.in_err-inner.ensures.left) c.in_err-inner.ensures.refused))
-
-pub returns-in_err-stmts-clause-deep : goal.returns-in_err-stmts-clause-deep
-returns-in_err-stmts-clause-deep c =
-    let named = even c.args.depth (stays_named (codes "apply")) (may c.in_ok-fixed_name.ensures.taken) in
-    let front = opens_then 0 1 named (one_open (codes "{") refl (may c.in_ok-inner.ensures.taken)) in
-    deep_answers _ _ c.from_residual-in_err-stmts.result c.from_residual-in_err-stmts.ensures.1 (if_deep c.in_err-stmts.field-0.0 (λ p. reaches_within c.args.depth 1 c.in_ok-inner.inner 1 (omega (arith, c.in_ok-inner.ensures.depth)) (omega arith) front p) c.in_err-stmts.ensures.deep)
+pub returns : goal.returns
+returns c =
+    let r = around_few {Of = SpellsStmts} {seen = seen_stmts} {Few = HaveFew} refl (passes_apply c.args.depth) (λ inner old new r call. search rules) c.in_brackets.ensures in
+    behind_few c.fixed_name.new.self (λ b m p. reaches_past c.args.depth 0 c.args.depth 1 1 (omega arith) (omega arith) (even c.args.depth (stays_named (codes "apply")) m) p) c.in_ok-fixed_name.ensures.taken r

@@ -1,58 +1,42 @@
-use Rattle.std.proofs.Common.{arith, codes}
-use Rattle.spelling.proofs.Limits.{or_answers, or_as, want_or}
-use Rattle.spelling.proofs.Only.{after, after_one, named_same, wants, wants_name, wants_one}
-use Rattle.spelling.proofs.Taking.{takes_both, may}
-use Rattle.spelling.proofs.Bounds.{deep_answers, even, if_deep, opens_then, stop_opens}
-use Rattle.spelling.proofs.Balance.{stays_round}
-use Rattle.p4_parser.proofs.ControlSpelling.{same_control}
-use Rattle.p4_parser.specs.Declarations.{SpellsControlParameters}
+use Rattle.spelling.proofs.Taking.{may, takes_both}
 use Rattle.p4_parser.proofs.DeclarationsWithin.{control_parameters_stay}
 use Rattle.p4_parser.proofs.Reaching.{headed, reaches_past, reaches_stop}
+use Rattle.std.proofs.Common.{arith, codes}
+use Rattle.p4_parser.proofs.ControlSpelling.{same_control}
+use Rattle.spelling.proofs.Only.{after, after_one, named_same, wants}
+use Rattle.spelling.proofs.Bounds.{even, if_deep, opens_then, stop_opens}
+use Rattle.p4_statements.proofs.FewReading.{refused_few_made}
+use Rattle.p4_parser.specs.Declarations.{SpellsControlParameters}
+use Rattle.spelling.proofs.Limits.{or_as}
+use Rattle.spelling.proofs.Balance.{stays_round}
 use Rattle.p4_parser.proofs.controls.control.Goals as goal
 
-pub returns-clause-taken : goal.returns-clause-taken
-returns-clause-taken c = takes_both c.in_ok-reserved.ensures.taken (takes_both c.in_ok-name.ensures.taken (takes_both c.in_ok-parameters.ensures.taken c.in_ok-locals.ensures.taken))
-
-pub returns-clause-few : goal.returns-clause-few
-returns-clause-few c = c.in_ok-locals.ensures.few
-
-pub returns-in_err-reserved-clause-only : goal.returns-in_err-reserved-clause-only
-returns-in_err-reserved-clause-only c = λ more name locals body rest m.
-    or_answers _ _ _ _ _ _ c.from_residual.result c.from_residual.ensures.1 (want_or _ _ (wants_one _ _ m c.in_err-reserved.ensures.refused))
-
-pub returns-in_err-name-clause-only : goal.returns-in_err-name-clause-only
-returns-in_err-name-clause-only c = λ more name locals body rest m.
-    let m1 = after_one m c.in_ok-reserved.ensures.taken in
-    or_answers _ _ _ _ _ _ c.from_residual-in_err-name.result c.from_residual-in_err-name.ensures.1 (want_or _ _ (wants_name _ _ m1 c.in_err-name.ensures.refused))
-
-pub returns-in_err-parameters-clause-only : goal.returns-in_err-parameters-clause-only
-returns-in_err-parameters-clause-only c = λ more name locals body rest m.
-    let m1 = after_one m c.in_ok-reserved.ensures.taken in
-    let m2 = after_one m1 c.in_ok-name.ensures.taken in
-    or_answers _ _ _ _ _ _ c.from_residual-in_err-parameters.result c.from_residual-in_err-parameters.ensures.1 (wants m2 (λ b f s. or_as _ _ _ (λ few. few.0) (c.in_err-parameters.ensures.only more b f)))
-
-pub returns-in_err-locals-clause-only : goal.returns-in_err-locals-clause-only
-returns-in_err-locals-clause-only c = λ more name locals body rest m.
-    let m1 = after_one m c.in_ok-reserved.ensures.taken in
-    let m2 = after_one m1 c.in_ok-name.ensures.taken in
-    let m3 = after m2 (λ b f s. c.in_ok-parameters.ensures.only more b f) in
-    or_answers _ _ _ _ _ _ c.from_residual-in_err-locals.result c.from_residual-in_err-locals.ensures.1 (c.in_err-locals.ensures.only more locals body rest m3.1)
-
-pub returns-clause-only : goal.returns-clause-only
-returns-clause-only c = λ more name locals body rest m.
-    let m1 = after_one m c.in_ok-reserved.ensures.taken in
-    let m2 = after_one m1 c.in_ok-name.ensures.taken in
-    let m3 = after m2 (λ b f s. c.in_ok-parameters.ensures.only more b f) in
-    let m4 = c.in_ok-locals.ensures.only more locals body rest m3.1 in
-    (same_control (named_same m1 c.in_ok-name.ensures.taken) m4.0, m4.1)
-
-pub returns-in_err-parameters-clause-deep : goal.returns-in_err-parameters-clause-deep
-returns-in_err-parameters-clause-deep c =
+pub returns-in_err-parameters : goal.returns-in_err-parameters
+returns-in_err-parameters c =
     let named = headed (codes "control") c.in_ok-name.name c.in_ok-reserved.ensures.taken c.in_ok-name.ensures.taken in
-    deep_answers _ _ c.from_residual-in_err-parameters.result c.from_residual-in_err-parameters.ensures.1 (if_deep c.in_err-parameters.field-0.0 (λ s. reaches_stop (stop_opens c.args.depth 0 c.args.depth (omega arith) named s)) c.in_err-parameters.ensures.deep)
+    refused_few_made _ c.from_residual-in_err-parameters.ensures.1
+    (λ more of rest m. wants (after_one (after_one m c.in_ok-reserved.ensures.taken) c.in_ok-name.ensures.taken) (λ b f s. or_as _ _ _ (λ few. few.0) (c.in_err-parameters.ensures.only more tt b f)))
+    (if_deep _ (λ s. reaches_stop (stop_opens c.args.depth 0 c.args.depth (omega arith) named s)) c.in_err-parameters.ensures.deep)
 
-pub returns-in_err-locals-clause-deep : goal.returns-in_err-locals-clause-deep
-returns-in_err-locals-clause-deep c =
+pub returns-in_err-locals : goal.returns-in_err-locals
+returns-in_err-locals c =
     let named = headed (codes "control") c.in_ok-name.name c.in_ok-reserved.ensures.taken c.in_ok-name.ensures.taken in
     let front = opens_then 0 0 named (even c.args.depth (stays_round c.args.depth (λ _. SpellsControlParameters) (λ _. control_parameters_stay)) (may c.in_ok-parameters.ensures.taken)) in
-    deep_answers _ _ c.from_residual-in_err-locals.result c.from_residual-in_err-locals.ensures.1 (if_deep c.in_err-locals.field-0.0 (λ p. reaches_past c.args.depth 0 c.args.depth 2 2 (omega arith) (omega arith) front p) c.in_err-locals.ensures.deep)
+    refused_few_made _ c.from_residual-in_err-locals.ensures.1
+    (λ more of rest m.
+    let m3 = after (after_one (after_one m c.in_ok-reserved.ensures.taken) c.in_ok-name.ensures.taken) (λ b f s. c.in_ok-parameters.ensures.only more tt b f) in
+    c.in_err-locals.ensures.only more (of.1, of.2) rest m3.1)
+    (if_deep _ (λ p. reaches_past c.args.depth 0 c.args.depth 2 2 (omega arith) (omega arith) front p) c.in_err-locals.ensures.deep)
+
+pub returns : goal.returns
+returns c =
+    record {
+      taken = takes_both c.in_ok-reserved.ensures.taken (takes_both c.in_ok-name.ensures.taken (takes_both c.in_ok-parameters.ensures.taken c.in_ok-locals.ensures.taken));
+      few = c.in_ok-locals.ensures.few;
+      only = λ more of rest m.
+          let m1 = after_one m c.in_ok-reserved.ensures.taken in
+          let m3 = after (after_one m1 c.in_ok-name.ensures.taken) (λ b f s. c.in_ok-parameters.ensures.only more tt b f) in
+          let m4 = c.in_ok-locals.ensures.only more (of.1, of.2) rest m3.1 in
+          (same_control (named_same m1 c.in_ok-name.ensures.taken) m4.0, m4.1);
+      deep = tt;
+    }

@@ -1,16 +1,17 @@
+use Rattle.p4_statements.proofs.FewReading.{refused_few_before}
 use Rattle.std.proofs.Common.{◌≡◌, [], ◌∷◌, ◌++◌, ap, codes, map, refl, subst, ◌∙◌}
 use Rattle.std.proofs.lemmas.List.{map-append}
 use Rattle.std.proofs.lemmas.List.Elements.{All-cons, All-nil, All-push}
 use Rattle.elastic_ast.specs.Seen.{seen_expr, seen_exprs}
 use Rattle.spelling.specs.Grammar.{◌⨟◌, Begins, IsSign, Sign}
 use Rattle.spelling.specs.Reading.{ahead}
-use Rattle.spelling.proofs.Limits.{or_answers, or_as}
+use Rattle.spelling.proofs.Limits.{or_as}
 use Rattle.spelling.proofs.Only.{after, after_one, begins_first, not_there, regroup, wants}
 use Rattle.spelling.proofs.Taking.{first_one, later_more, may, takes_both}
 use Rattle.spelling.proofs.Whole.{first_of, left_first, left_more, none_left, one_left}
 use Rattle.p4_expr.specs.Expressions.{HasFewOperators, SpellsExpr}
-use Rattle.p4_statements.proofs.Arguments.{args_follow, few_at, no_comma, take_commas}
-use Rattle.spelling.proofs.Bounds.{deep_answers, if_deep, in_commas, in_sign}
+use Rattle.p4_statements.proofs.Arguments.{args_follow, few_at, no_comma, take_commas, LaterExpr}
+use Rattle.spelling.proofs.Bounds.{if_deep, in_commas, in_sign}
 use Rattle.spelling.proofs.Balance.{stays_commas, stays_sign}
 use Rattle.p4_expr.proofs.Bound.{expr_bound}
 use Rattle.p4_expr.proofs.InLines.{expr_in_line}
@@ -30,11 +31,6 @@ exprs-init c =
           left_first n refl r.0 r.1;
     }
 
-pub returns-in_err-first-clause-only : goal.returns-in_err-first-clause-only
-returns-in_err-first-clause-only c = λ more all rest m ends.
-    let n = first_of (SpellsExpr more) (λ e. Sign (codes ",") ⨟ SpellsExpr more e) all m in
-    or_answers _ _ _ _ _ _ c.from_residual.result c.from_residual.ensures.1 (wants n.ahead (λ b f s. or_as _ _ _ (λ few. (few.0, few_at [] n.one n.later all n.whole few.1)) (c.in_err-first.ensures.only more n.one b f (args_follow more n.later s ends))))
-
 pub exprs-preserved : goal.exprs-preserved
 exprs-preserved c =
     let grown : map seen_expr c.keep-in-exprs.new.items ≡ map seen_expr c.exprs.exprs ++ seen_expr c.in_ok-next.next ∷ [] = ap (map seen_expr) c.in_ok-keep-2.ensures.ok ∙ map-append seen_expr c.exprs.exprs (c.in_ok-next.next ∷ []) in
@@ -48,21 +44,33 @@ exprs-preserved c =
           left_more n grown r2.0 r2.1;
     }
 
-pub returns-in_err-next-clause-only : goal.returns-in_err-next-clause-only
-returns-in_err-next-clause-only c = λ more all rest m ends.
+pub returns-in_err-first : goal.returns-in_err-first
+returns-in_err-first c =
+    refused_few_before _ c.from_residual.ensures.1
+    (λ more all rest m ends.
+    let n = first_of (SpellsExpr more) (LaterExpr more) all m in
+    wants n.ahead (λ b f s. or_as _ _ _ (λ few. (few.0, few_at [] n.one n.later all n.whole few.1)) (c.in_err-first.ensures.only more n.one b f (args_follow more n.later s ends))))
+    (if_deep _ (λ p. expr_bound p) c.in_err-first.ensures.deep)
+
+pub returns-in_err-next : goal.returns-in_err-next
+returns-in_err-next c =
+    let depth = c.args.depth in
+    let read = seen_exprs c.exprs.exprs in
+    refused_few_before _ c.from_residual-in_err-next.ensures.1
+    (λ more all rest m ends.
     let n = one_left (c.exprs.invariant.only more all rest m ends) (λ e. no_comma rest ends (subst (Begins (IsSign (codes ","))) e (c.exprs-test.ensures.at.0 refl))) in
     let r1 = after_one (regroup n.ahead) (c.exprs-test.ensures.taken refl) in
-    or_answers _ _ _ _ _ _ c.from_residual-in_err-next.result c.from_residual-in_err-next.ensures.1 (wants r1 (λ b f s. or_as _ _ _ (λ few. (few.0, few_at _ n.one n.later all n.whole few.1)) (c.in_err-next.ensures.only more n.one b f (args_follow more n.later s ends))))
+    wants r1 (λ b f s. or_as _ _ _ (λ few. (few.0, few_at _ n.one n.later all n.whole few.1)) (c.in_err-next.ensures.only more n.one b f (args_follow more n.later s ends))))
+    (if_deep _ (λ p. past depth (take_commas depth read c.exprs.invariant.taken) (stays_commas (SpellsExpr depth) (λ e. expr_within) read) (in_commas (SpellsExpr depth) (λ e. expr_in_line depth e) read)
+    (past depth (may (c.exprs-test.ensures.taken refl)) (stays_sign (codes ",") refl refl) (in_sign (codes ",") refl refl refl) (expr_bound p))) c.in_err-next.ensures.deep)
 
-pub returns-clause-only : goal.returns-clause-only
-returns-clause-only c = λ more all rest m ends.
-    let done = none_left (c.exprs.invariant.only more all rest m ends) (λ e later f. not_there c.exprs-test.ensures.at.1 (begins_first (regroup f))) in
-    (done.0, ap ahead (c.exprs-test.ensures.left refl) ∙ done.1)
-
-pub returns-in_err-first-clause-deep : goal.returns-in_err-first-clause-deep
-returns-in_err-first-clause-deep c =
-    deep_answers _ _ c.from_residual.result c.from_residual.ensures.1 (if_deep c.in_err-first.field-0.0 (λ p. expr_bound p) c.in_err-first.ensures.deep)
-
-pub returns-in_err-next-clause-deep : goal.returns-in_err-next-clause-deep
-returns-in_err-next-clause-deep c =
-    deep_answers _ _ c.from_residual-in_err-next.result c.from_residual-in_err-next.ensures.1 (if_deep c.in_err-next.field-0.0 (λ p. past c.args.depth (take_commas c.args.depth (seen_exprs c.exprs.exprs) c.exprs.invariant.taken) (stays_commas (SpellsExpr c.args.depth) (λ e. expr_within) (seen_exprs c.exprs.exprs)) (in_commas (SpellsExpr c.args.depth) (λ e. expr_in_line c.args.depth e) (seen_exprs c.exprs.exprs)) (past c.args.depth (may (c.exprs-test.ensures.taken refl)) (stays_sign (codes ",") refl refl) (in_sign (codes ",") refl refl refl) (expr_bound p))) c.in_err-next.ensures.deep)
+pub returns : goal.returns
+returns c =
+    record {
+      taken = rw (c.exprs-test.ensures.left refl) c.exprs.invariant.taken;
+      few = c.exprs.invariant.few;
+      only = λ more all rest m ends.
+          let done = none_left (c.exprs.invariant.only more all rest m ends) (λ e later f. not_there c.exprs-test.ensures.at.1 (begins_first (regroup f))) in
+          (done.0, ap ahead (c.exprs-test.ensures.left refl) ∙ done.1);
+      deep = tt;
+    }

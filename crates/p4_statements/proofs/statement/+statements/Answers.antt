@@ -1,9 +1,10 @@
+use Rattle.std.proofs.lemmas.Result.{IfOk-weaker}
 use Rattle.std.proofs.Common.{◌≡◌, ◌-◌, suc, true, false, [], ◌∷◌, ◌++◌, ap, arith, codes, inl, inr, map, refl, sym, subst, ◌∙◌}
 use Rattle.std.proofs.lemmas.Bool.{false≢true}
 use Rattle.std.proofs.lemmas.List.{map-append}
 use Rattle.std.proofs.lemmas.List.Elements.{All-append, All-cons}
 use Rattle.elastic_ast.specs.Seen.{joined, seen_expr, seen_stmt, seen_stmts}
-use Rattle.elastic_ast.specs.SeenLaws.{seen_stmt-block, seen_stmt-for, seen_stmt-if, seen_stmt-if_else}
+use Rattle.elastic_ast.proofs.SeenLaws.{seen_stmt-block, seen_stmt-for, seen_stmt-if, seen_stmt-if_else}
 use Rattle.elastic_ast.specs.Tree.{PlainStmt, PlainStmts}
 use Rattle.spelling.specs.Grammar.{Begins, IsReserved, IsSign}
 use Rattle.spelling.specs.Reading.{ahead, Takes}
@@ -15,7 +16,6 @@ use Rattle.p4_expr.specs.Expressions.{HasFewOperators}
 use Rattle.p4_statements.specs.ExpressionsIn.{expressions_of, expressions_of_all}
 use Rattle.p4_statements.specs.Statements.{SpellsBranch, SpellsStmt, SpellsStmts}
 use Rattle.p4_statements.specs.Reading.{HasFew, HaveFew, SpellsSimple}
-use Rattle.p4_statements.proofs.Ahead.{if_ok_as}
 use Rattle.p4_statements.proofs.Forms.{Braces, alone_there, block_of, braces_begin, braces_there, branch_of, closed_end, else_of, for_of, if_of, is_block, is_for, is_if, is_simple, no_bare, one_less, one_of, simple_of, stmt_no_closing}
 use Rattle.p4_statements.proofs.Lists.{SpellsAny, all_front, any_end, else_few, few_next, few_push, if_few, joined_listed, list_stmts, listed, no_else_follows, of_any, take_stmts}
 use Rattle.spelling.proofs.Bounds.{deep_answers, deep_as, forbidden, if_deep}
@@ -51,12 +51,12 @@ block-returns-clause-only t c = λ more open_end stmt rest m at.
 pub repeated-returns-in_err-index-clause-only : goal.repeated-returns-in_err-index-clause-only
 repeated-returns-in_err-index-clause-only t c = λ more open_end stmt rest m at.
     let p = is_for more open_end stmt m at in
-    or_answers _ _ _ _ _ _ c.from_residual.result c.from_residual.ensures.1 (wants p.parts (λ b f s. or_as _ _ _ (λ few. few.0) (c.in_err-index.ensures.only more p.index p.size b f)))
+    or_answers _ _ _ _ _ _ c.from_residual.result c.from_residual.ensures.1 (wants p.parts (λ b f s. or_as _ _ _ (λ few. few.0) (c.in_err-index.ensures.only more (p.index, p.size) b f)))
 
 pub repeated-returns-in_err-body-clause-only : goal.repeated-returns-in_err-body-clause-only
 repeated-returns-in_err-body-clause-only t c = λ more open_end stmt rest m at.
     let p = is_for more open_end stmt m at in
-    let m2 = after p.parts (λ b f s. c.in_ok-index.ensures.only more p.index p.size b f) in
+    let m2 = after p.parts (λ b f s. c.in_ok-index.ensures.only more (p.index, p.size) b f) in
     or_answers _ _ _ _ _ _ c.from_residual-in_err-body.result c.from_residual-in_err-body.ensures.1 (or_as _ _ _ (λ few. (few.0, subst HasFew p.is few.1)) (c.in_err-body.ensures.only more p.body rest m2.1))
 
 pub repeated-returns-clause-taken : goal.repeated-returns-clause-taken
@@ -70,7 +70,7 @@ repeated-returns-clause-few t c = subst HasFew (sym (seen_stmt-for c.in_ok-index
 pub repeated-returns-clause-only : goal.repeated-returns-clause-only
 repeated-returns-clause-only t c = λ more open_end stmt rest m at.
     let p = is_for more open_end stmt m at in
-    let m2 = after p.parts (λ b f s. c.in_ok-index.ensures.only more p.index p.size b f) in
+    let m2 = after p.parts (λ b f s. c.in_ok-index.ensures.only more (p.index, p.size) b f) in
     let r = c.in_ok-body.ensures.only more p.body rest m2.1 in
     (seen_stmt-for c.in_ok-index.index c.in_ok-index.size c.in_ok-body.body ∙ ap (λ i. PlainStmt.For i.0 i.1 (seen_stmts c.in_ok-body.body)) m2.0 ∙ ap (PlainStmt.For p.index p.size) r.0 ∙ sym p.is, r.1)
 
@@ -166,7 +166,7 @@ in_braces-returns-clause-only t c = λ more stmts rest m.
 
 pub branch-returns-then-is_at_sign-clause-taken : goal.branch-returns-then-is_at_sign-clause-taken
 branch-returns-then-is_at_sign-clause-taken t c =
-    if_ok_as (λ s. Takes (Braces c.args.depth (seen_stmts s)) (ahead c.args.reader.now) (ahead c.in_braces.new.reader)) _ _ (λ s t. record { open_end = false; taken = takes_as (branch_of c.args.depth (seen_stmts s)) t; ends = λ e _. absurd (false≢true e) }) c.in_braces.ensures.taken
+    IfOk-weaker _ (λ s. Takes (Braces c.args.depth (seen_stmts s)) (ahead c.args.reader.now) (ahead c.in_braces.new.reader)) _ (λ s t. record { open_end = false; taken = takes_as (branch_of c.args.depth (seen_stmts s)) t; ends = λ e _. absurd (false≢true e) }) c.in_braces.ensures.taken
 
 pub branch-returns-then-is_at_sign-clause-only : goal.branch-returns-then-is_at_sign-clause-only
 branch-returns-then-is_at_sign-clause-only t c = λ more open_end stmts rest m ends.
@@ -212,7 +212,7 @@ statement-returns-then-is_at_reserved-2-clause-only t c = λ more open_end stmt 
 
 pub statement-returns-clause-taken : goal.statement-returns-clause-taken
 statement-returns-clause-taken t c =
-    if_ok_as (λ s. Takes (SpellsSimple c.args.depth (seen_stmt s)) (ahead c.args.reader.now) (ahead c.simple_statement.new.reader)) _ _ (λ s t. record { open_end = false; taken = takes_as (simple_of c.args.depth (seen_stmt s)) t; ends = λ e _. absurd (false≢true e) }) c.simple_statement.ensures.taken
+    IfOk-weaker _ (λ s. Takes (SpellsSimple c.args.depth (seen_stmt s)) (ahead c.args.reader.now) (ahead c.simple_statement.new.reader)) _ (λ s t. record { open_end = false; taken = takes_as (simple_of c.args.depth (seen_stmt s)) t; ends = λ e _. absurd (false≢true e) }) c.simple_statement.ensures.taken
 
 pub statement-returns-clause-only : goal.statement-returns-clause-only
 statement-returns-clause-only t c = λ more open_end stmt rest m ends.

@@ -1,7 +1,7 @@
 use Rattle.std.proofs.Common.{◌≡◌, ℕ, List, arith, ap, ◌∙◌, ℤ}
 use Rattle.std.proofs.lemmas.Int.{to_z-of_z}
 use mir.Syntax.{w128}
-use Rattle.p4all_top.specs.Answer.{with_sizes, with_utility}
+use Rattle.p4all_top.specs.Printed.{with_sizes, with_utility}
 use Rattle.p4all_top.proofs.LineLaws.{with_step, with_all}
 use Rattle.p4all_top.proofs.printing.sizes_lines.Goals as goal
 

@@ -1,5 +1,5 @@
 use Rattle.std.proofs.Common.{◌≡◌, [], drop}
-use Rattle.p4all_top.specs.Answer.{with_sizes}
+use Rattle.p4all_top.specs.Printed.{with_sizes}
 use Rattle.p4all_top.proofs.printing.sizes_lines.Given as goal
 
 abbrev pub invariant-loop-i : goal.invariant-loop-i

@@ -1,29 +1,20 @@
-use Rattle.p4all_top.specs.Commands.{texts_of}
-use Rattle.p4all_top.specs.declared.status.Status.TheVariants as status
-use Rattle.p4all_top.proofs.ShowLaws.{any_end, ends_named, first_word, second_word, tells, order_named}
+use Rattle.std.proofs.Common.{sym, subst}
+use Rattle.std.specs.Prelude.{IfSome, Option}
+use Rattle.p4all_top.specs.Command.{Command}
+use Rattle.p4all_top.specs.Run.{IsRun, outside}
+use Rattle.p4all_top.proofs.RunLaws.{answered, called, caused, found_ends, stopped, two_words}
 use Rattle.p4all_top.proofs.size_command.do_size.Goals as goal
 
-pub returns-in-Ok-clause-tells : goal.returns-in-Ok-clause-tells
-returns-in-Ok-clause-tells g c =
-    tells (texts_of c.args.words.now) (g.S.Shelf.holds c.args.shelf.now) _ _ c.in-Ok.answer.lines c.in-Ok.answer.status c.show.result _ _ (first_word c.args.words.now _ c.if-words-ne2.false) (second_word c.args.words.now _ c.if-words-ne2.false)
-    c.in-Ok.ensures.ended c.in-Ok.ensures.answer c.show.ensures.shown
-
-pub returns-in-Ok-clause-ends : goal.returns-in-Ok-clause-ends
-returns-in-Ok-clause-ends g c other =
-    ends_named (texts_of c.args.words.now) (g.S.Shelf.holds c.args.shelf.now) _ _ c.in-Ok.answer.lines c.in-Ok.answer.status c.show.result _ _ (first_word c.args.words.now _ c.if-words-ne2.false) (second_word c.args.words.now _ c.if-words-ne2.false)
-    c.in-Ok.ensures.answer c.show.ensures.shown
-
-pub returns-in-Err-Fault-clause-ends : goal.returns-in-Err-Fault-clause-ends
-returns-in-Err-Fault-clause-ends g c other = any_end (g.S.Shelf.holds c.args.shelf.now) _ _ status.Fault (λ expected. tt)
-
-pub returns-in-Err-Memory-clause-ends : goal.returns-in-Err-Memory-clause-ends
-returns-in-Err-Memory-clause-ends g c other = any_end (g.S.Shelf.holds c.args.shelf.now) _ _ status.Memory (λ expected. tt)
-
-pub returns-in-Ok-clause-order : goal.returns-in-Ok-clause-order
-returns-in-Ok-clause-order g c other = order_named (g.S.Shelf.holds c.args.shelf.now) _ _ (λ name. g.S.Shelf.read_leads c.args.shelf.now name c.find.new.shelf) (first_word c.args.words.now _ c.if-words-ne2.false) c.find.ensures.order
-
-pub returns-in-Err-Fault-clause-order : goal.returns-in-Err-Fault-clause-order
-returns-in-Err-Fault-clause-order g c other = order_named (g.S.Shelf.holds c.args.shelf.now) _ _ (λ name. g.S.Shelf.read_leads c.args.shelf.now name c.find.new.shelf) (first_word c.args.words.now _ c.if-words-ne2.false) c.find.ensures.order
-
-pub returns-in-Err-Memory-clause-order : goal.returns-in-Err-Memory-clause-order
-returns-in-Err-Memory-clause-order g c other = order_named (g.S.Shelf.holds c.args.shelf.now) _ _ (λ name. g.S.Shelf.read_leads c.args.shelf.now name c.find.new.shelf) (first_word c.args.words.now _ c.if-words-ne2.false) c.find.ensures.order
+pub returns-in-Ok-clause-run : goal.returns-in-Ok-clause-run
+returns-in-Ok-clause-run g c =
+    let before = outside g.S.Shelf.holds g.S.Shelf.told g.O.Sink.written c.args.shelf.now c.args.out.now in
+    let now = outside g.S.Shelf.holds g.S.Shelf.told g.O.Sink.written c.find.new.shelf c.show.new.out in
+    let P : Option Command → Type 0 = λ z. IfSome z (λ command. IsRun command c.show.result before now) in
+    let held = g.S.Shelf.holds c.args.shelf.now in
+    subst P (sym (two_words c.args.words.now _ _ c.if-words-ne2.false)) record {
+      answer = answered _ _ held now.holds c.in-Ok.outcome c.show.result _ _ c.in-Ok.ensures.answer c.show.ensures.shown c.find.ensures.kept;
+      stopped = stopped _ _ held c.in-Ok.outcome c.show.result _ _ c.in-Ok.ensures.answer c.show.ensures.shown;
+      causes = caused _ _ held c.in-Ok.outcome c.show.result _ _ c.in-Ok.ensures.answer c.show.ensures.shown;
+      calls = called _ _ held c.in-Ok.outcome.lines c.in-Ok.outcome.status c.show.result _ _ _ _ c.in-Ok.ensures.calls (found_ends _ _ held c.in-Ok.outcome c.in-Ok.ensures.answer) c.show.ensures.shown;
+      files = c.find.ensures.kept;
+    }

@@ -1,7 +1,7 @@
 use Rattle.std.proofs.Common.{List, [], take, subst}
 use Rattle.elastic_ast.specs.declared.declarations.Comp.{Comp}
 use Rattle.elastic_ast.specs.Seen.{seen_decl, seen_decls}
-use Rattle.elastic_ast.specs.Sums.{comparisons, comps_of}
+use Rattle.elastic_ast.specs.Sizes.SizeSums.{comparisons, comps_of}
 use Rattle.size_terms.specs.Building.{AddsComps}
 use Rattle.size_terms.proofs.BuildLaws.{comps_taken, short_rest}
 use Rattle.size_terms.proofs.RowLaws.{adds_both}

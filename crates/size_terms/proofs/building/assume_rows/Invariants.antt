@@ -1,7 +1,7 @@
 use Rattle.std.proofs.Common.{◌≡◌, true, [], take, drop}
 use Rattle.std.specs.List.{list_all}
 use Rattle.elastic_ast.specs.Seen.{seen_decls}
-use Rattle.elastic_ast.specs.Sums.{comparisons}
+use Rattle.elastic_ast.specs.Sizes.SizeSums.{comparisons}
 use Rattle.size_terms.specs.Building.{AddsComps, is_short}
 use Rattle.size_terms.proofs.building.assume_rows.Given as goal
 

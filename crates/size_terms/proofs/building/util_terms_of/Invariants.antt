@@ -1,7 +1,7 @@
 use Rattle.std.proofs.Common.{◌≡◌, drop}
 use Rattle.elastic_ast.specs.Seen.{seen_decls}
-use Rattle.elastic_ast.specs.Scope.{found}
-use Rattle.elastic_ast.specs.Sums.{utility_of}
+use Rattle.elastic_ast.specs.Typing.Scope.{found}
+use Rattle.elastic_ast.specs.Sizes.SizeSums.{utility_of}
 use Rattle.size_terms.proofs.building.util_terms_of.Given as goal
 
 abbrev pub invariant-loop-decl : goal.invariant-loop-decl

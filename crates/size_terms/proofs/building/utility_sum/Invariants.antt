@@ -1,6 +1,6 @@
 use Rattle.std.proofs.Common.{◌≡◌, ◌*◌, ◌≤◌, ℕ, List, true, drop, length, ◌+ℤ◌}
 use Rattle.std.specs.List.{list_all}
-use Rattle.elastic_ast.specs.Sums.{utils_value}
+use Rattle.elastic_ast.specs.Sizes.SizeSums.{utils_value}
 use Rattle.size_terms.specs.Growth.{sum_worth, bulk}
 use Rattle.size_terms.specs.Building.{is_near_util}
 use Rattle.size_terms.proofs.building.utility_sum.Given as goal

@@ -1,6 +1,6 @@
 use Rattle.std.proofs.Common.{true, false, List, ◌*◌, length, subst}
 use Rattle.elastic_ast.specs.declared.declarations.LinTerm.{LinTerm}
-use Rattle.elastic_ast.specs.Sums.{signed, sum_value}
+use Rattle.elastic_ast.specs.Sizes.SizeSums.{signed, sum_value}
 use Rattle.size_terms.specs.Growth.{Grows, IsZero}
 use Rattle.size_terms.proofs.RowLaws.{difference_is}
 use Rattle.size_terms.proofs.comparisons.difference.Goals as goal

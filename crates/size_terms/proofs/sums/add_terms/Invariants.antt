@@ -1,6 +1,6 @@
 use Rattle.std.proofs.Common.{◌≡◌, ◌+◌, ◌*◌, ◌≤◌, ℕ, List, true, drop, length, ◌+ℤ◌}
 use Rattle.std.specs.List.{list_all}
-use Rattle.elastic_ast.specs.Sums.{signed, sum_value}
+use Rattle.elastic_ast.specs.Sizes.SizeSums.{signed, sum_value}
 use Rattle.size_terms.specs.Growth.{sum_worth, bulk, is_near}
 use Rattle.size_terms.proofs.sums.add_terms.Given as goal
 

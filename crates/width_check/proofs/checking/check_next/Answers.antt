@@ -1,8 +1,8 @@
 use Rattle.std.proofs.Common.{ap, ◌∙◌}
-use Rattle.elastic_ast.specs.Scope.{or_else}
+use Rattle.elastic_ast.specs.Typing.Scope.{or_else}
 use Rattle.elastic_ast.specs.Seen.{seen_decl}
-use Rattle.elastic_ast.specs.Demand.{first_broken}
-use Rattle.elastic_ast.specs.Asked.{asks_decl}
+use Rattle.elastic_ast.specs.Typing.Demand.{first_broken}
+use Rattle.elastic_ast.specs.Typing.Asked.{asks_decl}
 use Rattle.width_check.specs.Scoped.{before_of, name_broken}
 use Rattle.width_check.proofs.Steps.{fine_both, refused_first, refused_second}
 use Rattle.width_check.proofs.CheckLaws.{other_broken, next_parts}

@@ -1,4 +1,4 @@
-use Rattle.elastic_ast.specs.Asked.{asks_comp}
+use Rattle.elastic_ast.specs.Typing.Asked.{asks_comp}
 use Rattle.width_check.specs.Scoped.{before_of}
 use Rattle.width_check.proofs.Steps.{stops, goes_on}
 use Rattle.width_check.proofs.declarations.check_assume.Goals as goal

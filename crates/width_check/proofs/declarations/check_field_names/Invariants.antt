@@ -1,7 +1,7 @@
 use Rattle.std.proofs.Common.{◌≡◌, [], drop, map}
-use Rattle.elastic_ast.specs.Demand.{first_broken}
-use Rattle.elastic_ast.specs.AskedOfNames.{asks_names}
-use Rattle.elastic_ast.specs.Asked.{field_name}
+use Rattle.elastic_ast.specs.Typing.Demand.{first_broken}
+use Rattle.elastic_ast.specs.Typing.AskedOfNames.{asks_names}
+use Rattle.elastic_ast.specs.Typing.Asked.{field_name}
 use Rattle.width_check.specs.Table.{names_in}
 use Rattle.width_check.proofs.declarations.check_field_names.Given as goal
 

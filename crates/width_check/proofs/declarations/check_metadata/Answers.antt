@@ -1,10 +1,10 @@
 use Rattle.std.proofs.Common.{[], map, sym, ap, ◌∙◌}
 use Rattle.std.specs.Prelude.{flat_map}
-use Rattle.elastic_ast.specs.Scope.{or_else}
-use Rattle.elastic_ast.specs.Demand.{first_broken}
-use Rattle.elastic_ast.specs.AskedOfNames.{asks_names}
-use Rattle.elastic_ast.specs.Asked.{asks_field, field_name}
-use Rattle.elastic_ast.proofs.First.{first-append}
+use Rattle.elastic_ast.specs.Typing.Scope.{or_else}
+use Rattle.elastic_ast.specs.Typing.Demand.{first_broken}
+use Rattle.elastic_ast.specs.Typing.AskedOfNames.{asks_names}
+use Rattle.elastic_ast.specs.Typing.Asked.{asks_field, field_name}
+use Rattle.elastic_ast.proofs.Typing.First.{first-append}
 use Rattle.width_check.specs.Scoped.{before_of}
 use Rattle.width_check.proofs.Steps.{fine_both, refused_first, refused_second}
 use Rattle.width_check.proofs.declarations.check_metadata.Goals as goal

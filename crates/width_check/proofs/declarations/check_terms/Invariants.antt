@@ -1,7 +1,7 @@
 use Rattle.std.proofs.Common.{◌≡◌, drop}
 use Rattle.std.specs.Prelude.{flat_map}
-use Rattle.elastic_ast.specs.Demand.{first_broken}
-use Rattle.elastic_ast.specs.Asked.{asks_term}
+use Rattle.elastic_ast.specs.Typing.Demand.{first_broken}
+use Rattle.elastic_ast.specs.Typing.Asked.{asks_term}
 use Rattle.width_check.specs.Scoped.{before_of}
 use Rattle.width_check.proofs.declarations.check_terms.Given as goal
 

@@ -1,5 +1,5 @@
-use Rattle.elastic_ast.specs.Asked.{asks_util}
-use Rattle.width_check.specs.Begun.{is_linear}
+use Rattle.elastic_ast.specs.Typing.Asked.{asks_util}
+use Rattle.width_check.specs.Supported.{is_linear}
 use Rattle.width_check.specs.Scoped.{before_of}
 use Rattle.width_check.proofs.Steps.{goes_on, rest_all, item_all}
 use Rattle.width_check.proofs.declarations.check_utility.Goals as goal

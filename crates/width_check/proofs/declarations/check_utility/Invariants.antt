@@ -1,9 +1,9 @@
 use Rattle.std.proofs.Common.{◌≡◌, true, drop}
 use Rattle.std.specs.Prelude.{flat_map}
-use Rattle.elastic_ast.specs.Demand.{first_broken}
-use Rattle.elastic_ast.specs.Asked.{asks_util}
+use Rattle.elastic_ast.specs.Typing.Demand.{first_broken}
+use Rattle.elastic_ast.specs.Typing.Asked.{asks_util}
 use Rattle.std.specs.List.{list_all}
-use Rattle.width_check.specs.Begun.{is_linear}
+use Rattle.width_check.specs.Supported.{is_linear}
 use Rattle.width_check.specs.Scoped.{before_of}
 use Rattle.width_check.proofs.declarations.check_utility.Given as goal
 

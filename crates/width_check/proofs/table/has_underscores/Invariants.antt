@@ -1,5 +1,5 @@
 use Rattle.std.proofs.Common.{◌≡◌, length}
-use Rattle.elastic_ast.specs.Demand.{has_underscores}
+use Rattle.elastic_ast.specs.Typing.Demand.{has_underscores}
 use Rattle.width_check.proofs.table.has_underscores.Given as goal
 
 abbrev pub invariant-loop-rest : goal.invariant-loop-rest

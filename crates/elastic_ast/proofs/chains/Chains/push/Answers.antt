@@ -1,5 +1,5 @@
 use Rattle.std.proofs.Common.{◌∙◌, arith}
-use Rattle.elastic_ast.proofs.LinkedLaws.{linked_push}
+use Rattle.elastic_ast.proofs.Containers.LinkedLaws.{linked_push}
 use Rattle.elastic_ast.proofs.chains.Chains.push.Goals as goal
 
 pub invariant_of-self-2 : goal.invariant_of-self-2

@@ -1,7 +1,7 @@
 use Rattle.std.proofs.Common.{◌≡◌, ◌<◌, length, sym, arith}
-use Rattle.elastic_ast.proofs.KeptLaws.{held_at, is_register, found_at, read_key, length_registers}
-use Rattle.elastic_ast.proofs.KeyLaws.{same_self}
-use Rattle.elastic_ast.specs.RegisterLists.{Key}
+use Rattle.elastic_ast.proofs.Containers.KeptLaws.{held_at, is_register, found_at, read_key, length_registers}
+use Rattle.elastic_ast.proofs.Containers.KeyLaws.{same_self}
+use Rattle.elastic_ast.specs.Containers.RegisterLists.{Key}
 use Rattle.elastic_ast.proofs.registers.Registers.entry.Goals as goal
 
 pub overflow_cast-result : goal.overflow_cast-result

@@ -1,6 +1,6 @@
 use Rattle.std.proofs.Common.{sym, arith}
-use Rattle.elastic_ast.proofs.ChainWalk.{walk_start, walk_step, fewer_left}
-use Rattle.elastic_ast.proofs.KeptLaws.{have_hash, in_list, read_key, found_at, nothing_left, length_registers}
+use Rattle.elastic_ast.proofs.Containers.ChainWalk.{walk_start, walk_step, fewer_left}
+use Rattle.elastic_ast.proofs.Containers.KeptLaws.{have_hash, in_list, read_key, found_at, nothing_left, length_registers}
 use Rattle.elastic_ast.proofs.registers.Registers.find.Goals as goal
 
 pub index-held-requires : goal.index-held-requires

@@ -1,8 +1,8 @@
-use Rattle.elastic_ast.specs.KeyHash.{hash_of}
-use Rattle.elastic_ast.specs.RegisterLists.{keys}
-use Rattle.elastic_ast.specs.KeptRegisters.{registers_of}
-use Rattle.elastic_ast.proofs.ChainWalk.{Walk, places_left}
-use Rattle.elastic_ast.proofs.KeptLaws.{has_key}
+use Rattle.elastic_ast.specs.Containers.KeyHash.{hash_of}
+use Rattle.elastic_ast.specs.Containers.RegisterLists.{keys}
+use Rattle.elastic_ast.specs.Containers.KeptRegisters.{registers_of}
+use Rattle.elastic_ast.proofs.Containers.ChainWalk.{Walk, places_left}
+use Rattle.elastic_ast.proofs.Containers.KeptLaws.{has_key}
 use Rattle.elastic_ast.proofs.registers.Registers.find.Given as goal
 
 abbrev pub invariant-places : goal.invariant-places

@@ -1,6 +1,6 @@
 use Rattle.std.proofs.Common.{◌<◌, length, sym, arith}
-use Rattle.elastic_ast.proofs.KeptLaws.{held_at, is_register, length_registers}
-use Rattle.elastic_ast.proofs.RegisterLaws.{cell_at-past, cell_at-without, cell_at-within}
+use Rattle.elastic_ast.proofs.Containers.KeptLaws.{held_at, is_register, length_registers}
+use Rattle.elastic_ast.proofs.Containers.RegisterLaws.{cell_at-past, cell_at-without, cell_at-within}
 use Rattle.elastic_ast.proofs.registers.Registers.load.Goals as goal
 
 pub returns-then-place-len : goal.returns-then-place-len

@@ -1,5 +1,5 @@
 use Rattle.std.proofs.Common.{arith}
-use Rattle.elastic_ast.proofs.KeptPuts.{put_list}
+use Rattle.elastic_ast.proofs.Containers.KeptPuts.{put_list}
 use Rattle.elastic_ast.proofs.registers.Registers.put.Goals as goal
 
 pub invariant_of-self-2 : goal.invariant_of-self-2

@@ -1,8 +1,8 @@
 use Rattle.std.proofs.Common.{◌<◌, length, refl, sym, arith}
-use Rattle.elastic_ast.specs.KeptRegisters.{registers_of}
-use Rattle.elastic_ast.proofs.KeptLaws.{held_at, length_registers}
-use Rattle.elastic_ast.proofs.KeptPuts.{kept_written, written}
-use Rattle.elastic_ast.proofs.RegisterLaws.{cell_at-past, cell_at-without, with_width, other_width}
+use Rattle.elastic_ast.specs.Containers.KeptRegisters.{registers_of}
+use Rattle.elastic_ast.proofs.Containers.KeptLaws.{held_at, length_registers}
+use Rattle.elastic_ast.proofs.Containers.KeptPuts.{kept_written, written}
+use Rattle.elastic_ast.proofs.Containers.RegisterLaws.{cell_at-past, cell_at-without, with_width, other_width}
 use Rattle.elastic_ast.proofs.registers.Registers.store.Goals as goal
 use Rattle.elastic_ast.proofs.registers.Registers.store.Goals.{then-held-value-via-then-held-value, then-held-value-via-else-held-value+then-cell-len}
 

@@ -1,5 +1,5 @@
 use Rattle.std.proofs.Common.{◌∙◌}
-use Rattle.elastic_ast.proofs.PlaceLaws.{place_tells, same_place, index_told}
+use Rattle.elastic_ast.proofs.Containers.PlaceLaws.{place_tells, same_place, index_told}
 use Rattle.elastic_ast.proofs.slot.Slot.is_at.Goals as goal
 
 pub returns-then-eq : goal.returns-then-eq

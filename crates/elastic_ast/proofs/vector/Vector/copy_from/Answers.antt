@@ -1,9 +1,9 @@
 use Rattle.std.proofs.Common.{refl, sym, ap, subst, ◌∙◌, arith}
 use Rattle.std.proofs.lemmas.List.{with_items_is}
-use Rattle.elastic_ast.specs.Slots.{seen, Indexed}
-use Rattle.elastic_ast.specs.Vectors.{BitsOfValidity}
-use Rattle.elastic_ast.proofs.GivenLaws.{given_seen, given_index}
-use Rattle.elastic_ast.proofs.SameLaws.{one_order_same}
+use Rattle.elastic_ast.specs.Containers.Slots.{seen_slots, Indexed}
+use Rattle.elastic_ast.specs.Containers.Vectors.{BitsOfValidity}
+use Rattle.elastic_ast.proofs.Containers.GivenLaws.{given_seen, given_index}
+use Rattle.elastic_ast.proofs.Containers.SameLaws.{one_order_same}
 use Rattle.elastic_ast.proofs.vector.Vector.copy_from.Goals as goal
 
 pub returns-then-in_one_order-clause-same : goal.returns-then-in_one_order-clause-same
@@ -20,5 +20,5 @@ invariant_of-self-2 c =
 pub returns-clause-now : goal.returns-clause-now
 returns-clause-now c =
     let given = rw c.deref_mut-2.ensures.value at c.give_to.ensures in
-    ap seen (with_items_is c.self.inside.slots c.give_to.new.slots (omega arith))
+    ap seen_slots (with_items_is c.self.inside.slots c.give_to.new.slots (omega arith))
     ∙ given_seen c.self.inside.slots.items c.give_to.new.slots c.args.self.now c.args.from.now c.self.view_is given (c.has_places_of.ensures.0 c.if-not-has_places_of.false)

@@ -1,4 +1,4 @@
-use Rattle.elastic_ast.proofs.GivenLaws.{given_more, left_more}
+use Rattle.elastic_ast.proofs.Containers.GivenLaws.{given_more, left_more}
 use Rattle.elastic_ast.proofs.vector.Vector.give_to.Goals as goal
 
 pub loop-k-preserved : goal.loop-k-preserved

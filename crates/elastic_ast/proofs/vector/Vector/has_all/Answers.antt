@@ -1,7 +1,7 @@
 use Rattle.std.proofs.Common.{◌≡◌, true, false, sym, ◌∙◌, arith}
 use borrow.Author.Count.{below_more}
-use Rattle.elastic_ast.proofs.SlotLaws.{length_places}
-use Rattle.elastic_ast.proofs.SameLaws.{asked}
+use Rattle.elastic_ast.proofs.Containers.SlotLaws.{length_places}
+use Rattle.elastic_ast.proofs.Containers.SameLaws.{asked}
 use Rattle.elastic_ast.proofs.vector.Vector.has_all.Goals as goal
 
 pub returns-then-is_none : goal.returns-then-is_none

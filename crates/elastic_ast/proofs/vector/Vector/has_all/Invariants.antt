@@ -1,6 +1,6 @@
 use Rattle.std.proofs.Common.{ℕ, ◌<◌, [], get_or, IsTrue}
 use Rattle.std.specs.FinMap as map
-use Rattle.elastic_ast.specs.Slots.{entries, places}
+use Rattle.elastic_ast.specs.Containers.Slots.{entries, places}
 use Rattle.elastic_ast.proofs.vector.Vector.has_all.Given as goal
 
 abbrev pub invariant-loop-slot : goal.invariant-loop-slot

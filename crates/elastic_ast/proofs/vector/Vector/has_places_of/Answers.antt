@@ -1,4 +1,4 @@
-use Rattle.elastic_ast.proofs.SameLaws.{told_by_first, told_by_second}
+use Rattle.elastic_ast.proofs.Containers.SameLaws.{told_by_first, told_by_second}
 use Rattle.elastic_ast.proofs.vector.Vector.has_places_of.Goals as goal
 
 pub returns-then-has_all : goal.returns-then-has_all

@@ -1,6 +1,6 @@
 use Rattle.std.proofs.Common.{sym, ap, ◌∙◌}
-use Rattle.elastic_ast.specs.Slots.{hashes_of}
-use Rattle.elastic_ast.proofs.VectorLaws.{empty_vector}
+use Rattle.elastic_ast.specs.Containers.Slots.{hashes_of}
+use Rattle.elastic_ast.proofs.Containers.VectorLaws.{empty_vector}
 use Rattle.elastic_ast.proofs.vector.Vector.new.Goals as goal
 
 pub invariant_of-result : goal.invariant_of-result

@@ -1,5 +1,5 @@
 use Rattle.std.proofs.Common.{ap}
-use Rattle.elastic_ast.specs.Scope.{or_else}
+use Rattle.elastic_ast.specs.Typing.Scope.{or_else}
 use Rattle.size_terms.specs.Places.{entered, place_of}
 use Rattle.size_terms.proofs.PlaceLaws.{enter_step}
 use Rattle.size_terms.proofs.places.Places.of.Goals as goal

@@ -1,7 +1,7 @@
 use Rattle.std.proofs.Common.{◌≡◌, drop}
 use Rattle.std.specs.List.{position_from}
 use Rattle.elastic_ast.specs.Tree.{Name}
-use Rattle.elastic_ast.specs.Scope.{same, or_else}
+use Rattle.elastic_ast.specs.Typing.Scope.{same, or_else}
 use Rattle.size_terms.specs.Places.{entered, place_of}
 use Rattle.size_terms.proofs.places.Places.of.Given as goal
 

@@ -1,7 +1,8 @@
 use Rattle.std.proofs.Common.{◌≡◌, ◌<◌, ℕ, List, length, get_or, sym, ap, subst, ◌∙◌}
 use Rattle.elastic_ast.specs.declared.declarations.Decl.{Decl}
 use Rattle.elastic_ast.specs.Seen.{seen_decl}
-use Rattle.elastic_ast.specs.AskedOfNames.{top_names}
+use Rattle.elastic_ast.specs.Typing.Asked.{DeclKind}
+use Rattle.elastic_ast.specs.Typing.AskedOfNames.{top_names}
 use Rattle.width_check.specs.Table.{names_in}
 use Rattle.width_check.specs.Scoped.{before_of, entries_seen, named, are_distinct}
 use Rattle.width_check.proofs.ScopeLaws.{step_take, names_of_table, table_step, distinct_step, next_broken, refused_next, has_step}
@@ -30,8 +31,8 @@ invariant_of-self-2 c =
       names = table_step (before_of inside) (seen_decl decl) (entries_seen c.self.inside.names.entries) (entries_seen c.declare.new.names.entries) c.in-Ok.ensures.added c.self.invariant.names ∙ ap named (sym taken);
       distinct = ap (λ z. are_distinct (top_names z)) taken
           ∙ distinct_step c.args.allow_reserved (before_of inside) (seen_decl decl) (names_in c.self.inside.names.entries) c.in-Ok.ensures.fresh (names_of_table c.self.inside.names.entries (before_of inside) c.self.invariant.names) c.self.invariant.distinct;
-      utility = c.has_utility-self-inside.ensures ∙ has_step 1 (before_of inside) (seen_decl decl) _ c.self.inside.has_utility taken c.self.invariant.utility;
-      metadata = c.has_metadata-self-inside.ensures ∙ has_step 3 (before_of inside) (seen_decl decl) _ c.self.inside.has_metadata taken c.self.invariant.metadata;
+      utility = c.has_utility-self-inside.ensures ∙ has_step DeclKind.Utility (before_of inside) (seen_decl decl) _ c.self.inside.has_utility taken c.self.invariant.utility;
+      metadata = c.has_metadata-self-inside.ensures ∙ has_step DeclKind.Metadata (before_of inside) (seen_decl decl) _ c.self.inside.has_metadata taken c.self.invariant.metadata;
     }
 
 pub returns-clause-fresh : goal.returns-clause-fresh

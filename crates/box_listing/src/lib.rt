@@ -1,0 +1,9 @@
+//! The best sizes within bounds, by listing every point of the box. It stands in for the search by integer programs, and is
+//! used where at most a million sizes are within the bounds.
+#![tactic(auto)]
+
+mod choosing;
+mod listing;
+
+pub use choosing::{Choice, choose};
+pub use listing::points_have_numbers;

@@ -1,0 +1,3 @@
+pub mod HeaderBits
+pub mod Feasible
+pub mod Optimum

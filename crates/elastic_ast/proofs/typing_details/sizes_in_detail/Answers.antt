@@ -1,5 +1,0 @@
-use Rattle.elastic_ast.proofs.TypingDetails.{register_has_no_cells, register_has_too_many_cells, register_is_129_wide, field_has_an_index, register_of_an_array_has_no_index, indexed_action_is_called_without_its_index, indexed_action_is_called_in_its_loop, index_is_a_value, term_is_too_great, sixty_five_terms, sixty_four_terms, value_of_a_step_is_too_great, step_table_is_over_no_symbol}
-use Rattle.elastic_ast.proofs.typing_details.sizes_in_detail.Goals as goal
-
-pub returns : goal.returns
-returns c = record { register_has_no_cells = register_has_no_cells; register_has_too_many_cells = register_has_too_many_cells; register_is_129_wide = register_is_129_wide; field_has_an_index = field_has_an_index; register_of_an_array_has_no_index = register_of_an_array_has_no_index; indexed_action_is_called_without_its_index = indexed_action_is_called_without_its_index; indexed_action_is_called_in_its_loop = indexed_action_is_called_in_its_loop; index_is_a_value = index_is_a_value; term_is_too_great = term_is_too_great; sixty_five_terms = sixty_five_terms; sixty_four_terms = sixty_four_terms; value_of_a_step_is_too_great = value_of_a_step_is_too_great; step_table_is_over_no_symbol = step_table_is_over_no_symbol }

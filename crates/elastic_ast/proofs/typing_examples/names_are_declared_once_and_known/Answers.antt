@@ -1,5 +1,0 @@
-use Rattle.elastic_ast.proofs.TypingRows.{symbol_is_declared_later, field_is_of_no_header, state_may_be_declared_later, symbol_is_declared_twice, fixed_name_is_declared, index_has_the_name_of_a_parameter, parameter_may_hide_a_constant, set_names_a_symbol, set_may_name_a_constant, two_underscores_in_a_row, index_has_two_underscores, two_underscores_apart}
-use Rattle.elastic_ast.proofs.typing_examples.names_are_declared_once_and_known.Goals as goal
-
-pub returns : goal.returns
-returns c = record { symbol_is_declared_later = symbol_is_declared_later; field_is_of_no_header = field_is_of_no_header; state_may_be_declared_later = state_may_be_declared_later; symbol_is_declared_twice = symbol_is_declared_twice; fixed_name_is_declared = fixed_name_is_declared; index_has_the_name_of_a_parameter = index_has_the_name_of_a_parameter; parameter_may_hide_a_constant = parameter_may_hide_a_constant; set_names_a_symbol = set_names_a_symbol; set_may_name_a_constant = set_may_name_a_constant; two_underscores_in_a_row = two_underscores_in_a_row; index_has_two_underscores = index_has_two_underscores; two_underscores_apart = two_underscores_apart }

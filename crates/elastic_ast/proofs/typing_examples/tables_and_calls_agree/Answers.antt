@@ -1,5 +1,0 @@
-use Rattle.elastic_ast.proofs.TypingRows.{exact_key_has_a_mask, ternary_key_has_a_mask, bare_number_is_selected, field_is_selected, entry_runs_an_action_that_is_not_listed, more_entries_than_the_size, no_action_is_the_default, argument_is_missing, indexed_action_stands_in_a_table, no_action_has_no_parameters, action_of_a_table_names_a_register, action_beside_a_table_names_a_register}
-use Rattle.elastic_ast.proofs.typing_examples.tables_and_calls_agree.Goals as goal
-
-pub returns : goal.returns
-returns c = record { exact_key_has_a_mask = exact_key_has_a_mask; ternary_key_has_a_mask = ternary_key_has_a_mask; bare_number_is_selected = bare_number_is_selected; field_is_selected = field_is_selected; entry_runs_an_action_that_is_not_listed = entry_runs_an_action_that_is_not_listed; more_entries_than_the_size = more_entries_than_the_size; no_action_is_the_default = no_action_is_the_default; argument_is_missing = argument_is_missing; indexed_action_stands_in_a_table = indexed_action_stands_in_a_table; no_action_has_no_parameters = no_action_has_no_parameters; action_of_a_table_names_a_register = action_of_a_table_names_a_register; action_beside_a_table_names_a_register = action_beside_a_table_names_a_register }

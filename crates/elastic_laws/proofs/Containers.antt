@@ -1,0 +1,3 @@
+-- Vectors and registers.
+pub mod WriteLaws
+pub mod LookUpLaws

@@ -1,0 +1,3 @@
+-- What parsers take, and when they end.
+pub mod TakenLaws
+pub mod ParserEndLaws

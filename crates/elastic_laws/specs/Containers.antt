@@ -1,0 +1,2 @@
+-- What the laws of registers say.
+pub mod RegisterFacts

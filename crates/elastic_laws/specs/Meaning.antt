@@ -1,0 +1,2 @@
+-- What the laws of values say.
+pub mod ShiftFacts

@@ -1,0 +1,3 @@
+-- What the laws of packets say.
+pub mod TakenLocations
+pub mod ParserEnds

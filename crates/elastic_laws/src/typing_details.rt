@@ -1,0 +1,23 @@
+//! More small programs that break one rule of types alone, and typed ones, part by part of the rules.
+
+ghost use Rattle.elastic_laws.specs.Examples.TypingDetails.{NamesInDetail, ValuesInDetail, SizesInDetail, TablesInDetail};
+
+/// More of names: what each place asks for.
+pub fn names_in_detail()
+    ensures { NamesInDetail }
+{}
+
+/// More of widths and booleans.
+pub fn values_in_detail()
+    ensures { ValuesInDetail }
+{}
+
+/// More of sizes and indices.
+pub fn sizes_in_detail()
+    ensures { SizesInDetail }
+{}
+
+/// More of tables and calls.
+pub fn tables_in_detail()
+    ensures { TablesInDetail }
+{}

@@ -1,5 +1,0 @@
-use Rattle.spelling.proofs.Taking.{takes_both}
-use Rattle.p4_declarations.proofs.emits.parameter_words.Goals as goal
-
-pub returns-clause-taken : goal.returns-clause-taken
-returns-clause-taken c = takes_both c.in_ok-fixed_name.ensures.taken (takes_both c.in_ok-fixed_name-2.ensures.taken (takes_both c.in_ok-sign.ensures.taken (takes_both c.in_ok-reserved.ensures.taken (takes_both c.in_ok-fixed_name-3.ensures.taken c.in_ok-fixed_name-4.ensures.taken))))

@@ -1,8 +1,0 @@
-use Rattle.std.proofs.Common.{◌∙◌}
-use Rattle.elastic_ast.specs.Seen.{seen_decls}
-use Rattle.p4all_top.proofs.AnswerLaws.{answer_found}
-use Rattle.p4all_top.proofs.sizing.size_answer.Goals as goal
-
-pub returns : goal.returns
-returns c =
-    answer_found (seen_decls c.args.checked.now) c.args.target.now c.as_slice.result.now c.in_ok-choice.choice c.answer_of.result (c.as_slice.ensures ∙ c.in_ok-terms.ensures.symbols) c.in_ok-choice.ensures c.answer_of.ensures

@@ -1,0 +1,55 @@
+-- The lines that the commands print; this project's own.
+use Rattle.std.specs.Prelude.{ℕ, ℤ, pos, List, [], ◌∷◌, codes}
+use Rattle.elx_io.specs.Lines.{with_word, with_number, with_end}
+use Rattle.p4all_top.specs.declared.parsing.Refusal.{Refusal}
+use Rattle.p4all_top.specs.declared.parsing.Refusal.TheVariants as refusal
+
+-- a text and the line `size NAME VALUE`
+abbrev pub with_size : List ℕ → List ℕ → ℕ → List ℕ
+with_size text symbol size = with_end (with_number (with_word (with_word text (codes "size")) symbol) (pos size))
+
+-- a text and such a line for each symbol
+unfoldable pub with_sizes : List ℕ → List (List ℕ) → List ℕ → List ℕ
+with_sizes text [] sizes = text
+with_sizes text (symbol ∷ symbols) [] = text
+with_sizes text (symbol ∷ symbols) (size ∷ sizes) = with_sizes (with_size text symbol size) symbols sizes
+
+-- a text and the line `utility VALUE`
+abbrev pub with_utility : List ℕ → ℤ → List ℕ
+with_utility text value = with_end (with_number (with_word text (codes "utility")) value)
+
+-- the sizes of the symbols, and the utility
+abbrev pub sizes_text : List (List ℕ) → List ℕ → ℤ → List ℕ
+sizes_text symbols sizes value = with_utility (with_sizes [] symbols sizes) value
+
+abbrev pub infeasible_text : List ℕ
+infeasible_text = with_end (with_word [] (codes "infeasible"))
+
+-- the line `refused WHAT ..` so far
+abbrev pub begun_refusal : List ℕ → List ℕ
+begun_refusal what = with_word (with_word [] (codes "refused")) what
+
+-- the line `refused WHY NAMED`
+abbrev pub refused_text : List ℕ → List ℕ → List ℕ
+refused_text why named = with_end (with_word (begun_refusal why) named)
+
+abbrev pub unbounded_text : List ℕ → List ℕ
+unbounded_text symbol = refused_text (codes "unbounded") symbol
+
+abbrev pub notyet_text : List ℕ
+notyet_text = with_end (begun_refusal (codes "notyet"))
+
+-- the line `refused src CAUSE PLACE`
+abbrev pub source_text : List ℕ → ℕ → List ℕ
+source_text cause place = with_end (with_number (with_word (begun_refusal (codes "src")) cause) (pos place))
+
+-- the line of each refusal
+abbrev pub refusal_text : Refusal → List ℕ
+refusal_text refusal.LongSource = refused_text (codes "long") (codes "src")
+refusal_text refusal.LongTarget = refused_text (codes "long") (codes "target")
+refusal_text (refusal.Byte at) = source_text (codes "byte") at
+refusal_text (refusal.Number at) = source_text (codes "number") at
+refusal_text (refusal.Comment at) = source_text (codes "comment") at
+refusal_text (refusal.Syntax token) = source_text (codes "syntax") token
+refusal_text (refusal.Deep token) = source_text (codes "deep") token
+refusal_text refusal.NotYet = notyet_text

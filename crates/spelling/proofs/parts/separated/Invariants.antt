@@ -1,0 +1,10 @@
+use Rattle.std.proofs.Common.{length}
+use Rattle.spelling.specs.Reading.{ahead}
+use Rattle.spelling.specs.Readers.{WithSigns}
+use Rattle.spelling.proofs.parts.separated.Given as goal
+
+abbrev pub invariant-items : goal.invariant-items
+invariant-items g l = goal.F-IsAlwaysCallable g l.fn.part × WithSigns l.fn.sign (goal.F-post g l.fn.part) l.fn.reader l.items l.reader
+
+abbrev pub decreases-items : goal.decreases-items
+decreases-items g l = length (ahead l.reader)

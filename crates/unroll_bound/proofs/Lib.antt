@@ -1,0 +1,6 @@
+pub mod BoundLaws
+pub mod HeaderLaws
+pub mod UnitLaws
+pub mod UseLaws
+pub mod Widths
+pub mod WithinLaws

@@ -1,0 +1,231 @@
+-- What a supported program takes: it has no header and no unit, and no two of its symbols have one name.
+use Rattle.std.proofs.Common.{◌≡◌, ◌≢◌, ℕ, zero, suc, ◌+◌, ◌<◌, Bool, true, false, cond, ◌&&◌, ◌||◌, List, [], ◌∷◌, ◌++◌, length, get_or, Option, Some, None, refl, sym, ap, ◌∙◌, subst, arith, true≢false}
+use Rattle.std.specs.Prelude.{if◌then◌else◌, sum_by, option_and_then, option_map, unwrap_or}
+use Rattle.std.specs.List.{list_all, position_from}
+use Rattle.std.proofs.lemmas.Bool.{or_right}
+use Rattle.std.proofs.lemmas.List.{get_or-map}
+use Rattle.std.proofs.lemmas.List.Concat.{flat_map-append}
+use Rattle.std.proofs.lemmas.List.Folds.{list_any-append}
+use Rattle.std.proofs.lemmas.List.Sums.{sum_by-cons}
+use Rattle.std.proofs.lemmas.Slice.Eq.{bytes_eq-Decides}
+use Rattle.elastic_ast.specs.declared.declarations.Field.{Field}
+use Rattle.elastic_ast.specs.declared.rule.Rule.{Rule}
+use Rattle.elastic_ast.specs.Tree.{Name, PlainDecl, PlainStmts}
+use Rattle.elastic_ast.specs.Typing.Scope.{same, among, found, or_else}
+use Rattle.elastic_ast.specs.Typing.LookUps.{members_in, members_of, meta_fields}
+use Rattle.elastic_ast.specs.Packets.MainParts.{main_in, control_in}
+use Rattle.elastic_ast.specs.Sizes.SizeSums.{symbol_name, symbols_of}
+use Rattle.elastic_ast.specs.Units.Cuts.{cut_all}
+use Rattle.elastic_ast.specs.Typing.AskedOfNames.{asks_names, top_name, top_names}
+use Rattle.elastic_ast.specs.Typing.Asked.{asks_decl, is_first}
+use Rattle.elastic_ast.specs.Typing.Demand.{First, first_broken}
+use Rattle.elastic_ast.specs.Typing.Typed.{broken_rule, first_of}
+use Rattle.elastic_ast.specs.Units.UnitsOf.{flat, units_of, member_bits, scalar_bits, predicate_bits, fixed_bits, is_of_size, array_bits, bits_of_symbol, symbol_bits}
+use Rattle.elastic_ast.specs.Units.Costs.{place_of_symbol}
+use Rattle.elastic_laws.proofs.Typing.TypedFacts.{parts}
+use Rattle.elastic_ast.proofs.Typing.TypedLaws.{none_both}
+use Rattle.elastic_laws.proofs.Typing.TypedNames.{names_new}
+use Rattle.size_terms.specs.Places.{place_of}
+use Rattle.size_terms.proofs.SumLaws.{within_from}
+use Rattle.width_check.specs.Supported.{is_supported}
+use Rattle.width_check.specs.Sound.{IsSound}
+use Rattle.unroll_bound.specs.HeaderUse.{width_at, element_bits}
+use Rattle.unroll_bound.proofs.Widths.{width_here, width_there}
+
+-- a look-up that no supported declaration answers
+none_found : {A : Type 0} (gives : PlainDecl → Option A) → ((decl : PlainDecl) → is_supported decl ≡ true → gives decl ≡ None) → (decls : List PlainDecl) → list_all is_supported decls ≡ true → found gives decls ≡ None
+none_found gives none [] all = refl
+none_found gives none (decl ∷ decls) all = by (is_supported decl) refl all (none_found gives none decls)
+  where
+    by : (b : Bool) → is_supported decl ≡ b → (b && list_all is_supported decls) ≡ true → (list_all is_supported decls ≡ true → found gives decls ≡ None) → found gives (decl ∷ decls) ≡ None
+    by true e all later = ap (λ z. or_else z (found gives decls)) (none decl e) ∙ later all
+    by false e all later = cc
+
+no_members : (decl : PlainDecl) → is_supported decl ≡ true → members_in decl ≡ None
+no_members (PlainDecl.Headers members) e = cc
+no_members (PlainDecl.Include number) e = refl
+no_members (PlainDecl.Symbol name) e = refl
+no_members (PlainDecl.Assume comps) e = refl
+no_members (PlainDecl.Maximize terms) e = refl
+no_members (PlainDecl.Const name width value) e = refl
+no_members (PlainDecl.Header name fields) e = refl
+no_members (PlainDecl.Meta fields) e = refl
+no_members (PlainDecl.Register name width cells size) e = refl
+no_members (PlainDecl.Parser name states) e = refl
+no_members (PlainDecl.Control name locals body) e = refl
+no_members (PlainDecl.Deparser name emits) e = refl
+no_members (PlainDecl.Main parser control deparser) e = refl
+
+no_main : (decl : PlainDecl) → is_supported decl ≡ true → main_in decl ≡ None
+no_main (PlainDecl.Main parser control deparser) e = cc
+no_main (PlainDecl.Include number) e = refl
+no_main (PlainDecl.Symbol name) e = refl
+no_main (PlainDecl.Assume comps) e = refl
+no_main (PlainDecl.Maximize terms) e = refl
+no_main (PlainDecl.Const name width value) e = refl
+no_main (PlainDecl.Header name fields) e = refl
+no_main (PlainDecl.Headers members) e = refl
+no_main (PlainDecl.Meta fields) e = refl
+no_main (PlainDecl.Register name width cells size) e = refl
+no_main (PlainDecl.Parser name states) e = refl
+no_main (PlainDecl.Control name locals body) e = refl
+no_main (PlainDecl.Deparser name emits) e = refl
+
+no_units : (decls : List PlainDecl) → IsSound decls → units_of decls ≡ []
+no_units decls sound = ap (λ main. flat decls (cut_all (unwrap_or (option_and_then (λ m. found (control_in m.1) decls) main) PlainStmts.nil) false 0 None) 0) (none_found main_in no_main decls sound.supported)
+
+-- the bits at all sizes are those of the scalars
+pub fixed_law : (decls : List PlainDecl) → IsSound decls → fixed_bits decls ≡ sum_by scalar_bits (meta_fields decls)
+fixed_law decls sound =
+    let members : sum_by (member_bits decls) (members_of decls) ≡ 0 = ap (λ z. sum_by (member_bits decls) (unwrap_or z [])) (none_found members_in no_members decls sound.supported) in
+    let units : sum_by (predicate_bits None) (units_of decls) ≡ 0 = ap (sum_by (predicate_bits None)) (no_units decls sound) in
+    omega (arith, members, units)
+
+-- no name stands twice
+abbrev AreApart : List Name → Type 0
+AreApart [] = Unit {0}
+AreApart (name ∷ names) = (among names name ≡ false) × AreApart names
+
+unmapped : (rule : Option Rule) (number : ℕ) → option_map (λ x. let p : Rule × ℕ = (x, number) in p) rule ≡ None → rule ≡ None
+unmapped None number h = refl
+unmapped (Some x) number h = cc
+
+same_told : (a b : Name) → same a b ≡ true → a ≡ b
+same_told a b e = (bytes_eq-Decides a b).0 e
+
+same_is : (a b : Name) → a ≡ b → same a b ≡ true
+same_is a b e = (bytes_eq-Decides a b).1 e
+
+-- symbols behind some declarations are apart, and none has a name of these
+record Behind (before decls : List PlainDecl) : Type 0 where
+  apart : AreApart (symbols_of decls)
+  fresh : (name : Name) → among (top_names before) name ≡ true → among (symbols_of decls) name ≡ false
+
+-- one more declaration, whose names are new
+one_more : (before decls : List PlainDecl) (decl : PlainDecl) → first_broken true (asks_names (top_names before) (top_name decl)) ≡ None → Behind (before ++ decl ∷ []) decls → Behind before (decl ∷ decls)
+one_more before decls decl new rest = by decl refl
+  where
+    names : (name : Name) → among (top_names (before ++ decl ∷ [])) name ≡ (among (top_names before) name || among (top_name decl ++ []) name)
+    names name = ap (λ z. among z name) (flat_map-append top_name before (decl ∷ [])) ∙ list_any-append (same name) (top_names before) (top_name decl ++ [])
+
+    left : (a b c : Bool) → c ≡ (a || b) → a ≡ true → c ≡ true
+    left true b c e h = e
+    left false b c e h = cc
+
+    right : (a b c : Bool) → c ≡ (a || b) → b ≡ true → c ≡ true
+    right true b c e h = e
+    right false b c e h = e ∙ h
+
+    known : (name : Name) → among (top_names before) name ≡ true → among (symbols_of decls) name ≡ false
+    known name h = rest.fresh name (left (among (top_names before) name) (among (top_name decl ++ []) name) (among (top_names (before ++ decl ∷ [])) name) (names name) h)
+
+    other : symbol_name decl ≡ [] → Behind before (decl ∷ decls)
+    other none = record {
+      apart = subst (λ z. AreApart (z ++ symbols_of decls)) (sym none) rest.apart;
+      fresh = λ name h. ap (λ z. among (z ++ symbols_of decls) name) none ∙ known name h;
+    }
+
+    symbol : (own : Name) → decl ≡ PlainDecl.Symbol own → Behind before (decl ∷ decls)
+    symbol own e =
+        let here : among (top_name decl ++ []) own ≡ true = ap (λ d. among (top_name d ++ []) own) e ∙ ap (λ b. b || false) (same_is own own refl) in
+        let is_new : among (top_names before) own ≡ false = (names_new true (top_names before) (own ∷ []) (subst (λ d. first_broken true (asks_names (top_names before) (top_name d)) ≡ None) e new) 0 own refl).0 in
+        let named : symbol_name decl ≡ own ∷ [] = ap symbol_name e in record {
+          apart = subst (λ z. AreApart (z ++ symbols_of decls)) (sym named) (rest.fresh own (right (among (top_names before) own) (among (top_name decl ++ []) own) (among (top_names (before ++ decl ∷ [])) own) (names own) here), rest.apart);
+          fresh = λ name h. ap (λ z. among (z ++ symbols_of decls) name) named ∙ neither name h (same name own) refl is_new;
+        }
+      where
+        neither : (name : Name) → among (top_names before) name ≡ true → (b : Bool) → same name own ≡ b → among (top_names before) own ≡ false → (same name own || among (symbols_of decls) name) ≡ false
+        neither name h true e new = absurd (true≢false (sym h ∙ ap (among (top_names before)) (same_told name own e) ∙ new))
+        neither name h false e new = ap (λ z. z || among (symbols_of decls) name) e ∙ known name h
+
+    by : (d : PlainDecl) → decl ≡ d → Behind before (decl ∷ decls)
+    by (PlainDecl.Symbol own) e = symbol own e
+    by (PlainDecl.Include number) e = other (ap symbol_name e)
+    by (PlainDecl.Assume comps) e = other (ap symbol_name e)
+    by (PlainDecl.Maximize terms) e = other (ap symbol_name e)
+    by (PlainDecl.Const name width value) e = other (ap symbol_name e)
+    by (PlainDecl.Header name fields) e = other (ap symbol_name e)
+    by (PlainDecl.Headers members) e = other (ap symbol_name e)
+    by (PlainDecl.Meta fields) e = other (ap symbol_name e)
+    by (PlainDecl.Register name width cells size) e = other (ap symbol_name e)
+    by (PlainDecl.Parser name states) e = other (ap symbol_name e)
+    by (PlainDecl.Control name locals body) e = other (ap symbol_name e)
+    by (PlainDecl.Deparser name emits) e = other (ap symbol_name e)
+    by (PlainDecl.Main parser control deparser) e = other (ap symbol_name e)
+
+behind : (number : ℕ) (before decls : List PlainDecl) → first_of (broken_rule true) number before decls ≡ None → Behind before decls
+unfolding broken_rule
+behind number before [] h = record { apart = tt; fresh = λ name h. refl }
+behind number before (decl ∷ decls) h =
+    let both = none_both (option_map (λ x. let p : Rule × ℕ = (x, number) in p) (broken_rule true before decl)) (first_of (broken_rule true) (number + 1) (before ++ decl ∷ []) decls) h in
+    let own : first_broken true (asks_names (top_names before) (top_name decl) ++ (First (is_first before decl) ∷ asks_decl before decl)) ≡ None = unmapped (broken_rule true before decl) number both.0 in
+    one_more before decls decl (parts true (asks_names (top_names before) (top_name decl)) (First (is_first before decl) ∷ asks_decl before decl) own).0 (behind (number + 1) (before ++ decl ∷ []) decls both.1)
+
+-- a width at the place of a name, where the names are apart: there and nowhere else
+at_place : (name : Name) (width k place : ℕ) (symbols : List Name) → AreApart symbols → place < length symbols
+    → (if same (get_or symbols place []) name then width else 0) ≡ width_at width (k + place) (position_from (same name) k symbols)
+at_place name width k place [] apart h = absurd (omega arith)
+at_place name width k zero (m ∷ ms) apart h = by (same name m) refl
+  where
+    by : (b : Bool) → same name m ≡ b → (if same m name then width else 0) ≡ width_at width (k + 0) (cond b (Some k) (position_from (same name) (k + 1) ms))
+    by true e =
+        let s : same m name ≡ true = same_is m name (sym (same_told name m e)) in
+        let p : width_at width (k + 0) (Some k) ≡ width = ap (λ z. width_at width z (Some k)) (omega arith) ∙ width_here width k in
+        ap (λ z. if z then width else 0) s ∙ sym p
+    by false e = ap (λ z. if z then width else 0) (turned (same m name) refl) ∙ sym (later (position_from (same name) (k + 1) ms) refl)
+      where
+        turned : (b : Bool) → same m name ≡ b → same m name ≡ false
+        turned false f = f
+        turned true f = absurd (true≢false (sym (same_is name m (sym (same_told m name f))) ∙ e))
+
+        later : (o : Option ℕ) → position_from (same name) (k + 1) ms ≡ o → width_at width (k + 0) (position_from (same name) (k + 1) ms) ≡ 0
+        later None f = ap (width_at width (k + 0)) f
+        later (Some p) f =
+            let q = (within_from name (k + 1) ms p f).0 in
+            let ne : p ≢ k + 0 = omega (arith, q) in
+            ap (width_at width (k + 0)) f ∙ width_there width (k + 0) p ne
+at_place name width k (suc place) (m ∷ ms) apart h = by (same name m) refl (at_place name width (k + 1) place ms apart.1 (omega arith))
+  where
+    by : (b : Bool) → same name m ≡ b → (if same (get_or ms place []) name then width else 0) ≡ width_at width (k + 1 + place) (position_from (same name) (k + 1) ms)
+        → (if same (get_or ms place []) name then width else 0) ≡ width_at width (k + suc place) (cond b (Some k) (position_from (same name) (k + 1) ms))
+    by true e later =
+        let ne : k ≢ k + suc place = omega arith in
+        ap (λ z. if z then width else 0) (other (same (get_or ms place []) name) refl) ∙ sym (width_there width (k + suc place) k ne)
+      where
+        other : (b : Bool) → same (get_or ms place []) name ≡ b → same (get_or ms place []) name ≡ false
+        other false f = f
+        other true f =
+            let there : get_or ms place [] ≡ m = same_told (get_or ms place []) name f ∙ same_told name m e in
+            absurd (true≢false (sym (stands ms place (omega arith) there) ∙ apart.0))
+          where
+            stands : (names : List Name) (i : ℕ) → i < length names → get_or names i [] ≡ m → among names m ≡ true
+            stands [] i l g = absurd (omega arith)
+            stands (n ∷ names) zero l g = ap (λ b. b || among names m) (same_is m n (sym g))
+            stands (n ∷ names) (suc i) l g = or_right (same m n) (among names m) (stands names i (omega arith) g)
+    by false e later = later ∙ ap (λ z. width_at width z (position_from (same name) (k + 1) ms)) (omega arith)
+
+-- the bits of a field for each element, by the name of its symbol and by the place of it
+element_is : (symbols : List Name) (place : ℕ) → AreApart symbols → place < length symbols → (field : Field) → array_bits (get_or symbols place []) field ≡ element_bits symbols place field
+element_is symbols place apart h field = by field.size refl
+  where
+    by : (size : Option Name) → field.size ≡ size → array_bits (get_or symbols place []) field ≡ element_bits symbols place field
+    by None e = ap (λ z. if is_of_size (get_or symbols place []) z then field.width else 0) e ∙ sym (ap (λ z. width_at field.width place (option_and_then (place_of symbols) z)) e)
+    by (Some name) e =
+        ap (λ z. if is_of_size (get_or symbols place []) z then field.width else 0) e ∙ at_place name field.width 0 place symbols apart h ∙ ap (λ z. width_at field.width z (place_of symbols name)) (omega arith)
+        ∙ sym (ap (λ z. width_at field.width place (option_and_then (place_of symbols) z)) e)
+
+sums_alike : (f g : Field → ℕ) → ((field : Field) → f field ≡ g field) → (fields : List Field) → sum_by f fields ≡ sum_by g fields
+sums_alike f g same [] = refl
+sums_alike f g same (field ∷ fields) =
+    let ih = sums_alike f g same fields in
+    let here = same field in
+    sum_by-cons f field fields ∙ omega (arith, ih, here) ∙ sym (sum_by-cons g field fields)
+
+-- the bits for each one more of a symbol are those of the arrays of its size
+pub element_law : (decls : List PlainDecl) → IsSound decls → (place : ℕ) → place < length (symbols_of decls) → get_or (symbol_bits decls) place 0 ≡ sum_by (element_bits (symbols_of decls) place) (meta_fields decls)
+element_law decls sound place h =
+    let symbol : Name = get_or (symbols_of decls) place [] in
+    let apart = (behind 0 [] decls sound.rules).apart in
+    let units : sum_by (predicate_bits (Some (place_of_symbol decls symbol))) (units_of decls) ≡ 0 = ap (sum_by (predicate_bits (Some (place_of_symbol decls symbol)))) (no_units decls sound) in
+    let alike = sums_alike (array_bits symbol) (element_bits (symbols_of decls) place) (element_is (symbols_of decls) place apart h) (meta_fields decls) in
+    get_or-map (bits_of_symbol decls) (symbols_of decls) place [] 0 h ∙ omega (arith, units, alike)

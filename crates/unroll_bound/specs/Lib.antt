@@ -1,0 +1,4 @@
+pub mod HeaderUse
+pub mod Bound
+pub mod LoweredBounds
+pub mod ProgramBounds

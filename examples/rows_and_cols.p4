@@ -1,9 +1,0 @@
-// The metadata of a sketch: one index a row. More rows make it more accurate, and more columns too.
-symbolic int rows;
-symbolic int cols;
-assume(rows >= 1 && rows <= 3);
-assume(cols <= 100);
-struct meta_t {
-  bit<16>[rows] idx;
-}
-maximize(10*rows + cols);
