@@ -58,3 +58,7 @@ abbrev pub IsTightened : ℤ → ℤ → ℤ → ℤ → Option (ℤ × ℤ) →
 IsTightened a rest low high (Some ends) = IsNarrowed a rest low high ends
 IsTightened a rest low high None =
     ((z : ℤ) → low ≤ℤ z → z ≤ℤ high → CanHold a rest z) ⊎ ((z : ℤ) → low ≤ℤ z → z ≤ℤ high → CanHold a rest z → ⊥)
+
+-- the same of a row, a variable and a box
+abbrev pub IsRowTightened : Row → ℕ → IpBox → Option (ℤ × ℤ) → Type 0
+IsRowTightened row v b = IsTightened (factor row.parts v) (left_over row v b) (at b.low v) (at b.high v)

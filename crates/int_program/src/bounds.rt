@@ -1,6 +1,6 @@
 //! The root box, and the least and the greatest value of a sum of parts over a box.
 
-ghost use Rattle.std.specs.Prelude.{◌≡◌, ℕ, ℤ, pos, ◌*◌, ◌^◌, ◌<◌, ◌≤◌, ◌≤ℤ◌, length, unsigned_abs, max, All, IfOk};
+ghost use Rattle.std.specs.Prelude.{◌≡◌, ℤ, pos, ◌*◌, ◌<◌, ◌≤◌, ◌≤ℤ◌, length, unsigned_abs, max, All, IfOk};
 ghost use Rattle.int_program.specs.Boxes.{IsNonempty, IsFromZero, root_of};
 ghost use Rattle.int_program.specs.Bounds.{least_of, most_of, term_end as term_end_of, part_end as part_end_of, sum_end as sum_end_of, IsReached, NoneBelow, NoneAbove};
 ghost use Rattle.int_program.specs.Limits.{part_weight, weight, AreSmall, weight_limit};

@@ -1,12 +1,12 @@
 //! What a row leaves to one variable of a box.
 
-ghost use Rattle.std.specs.Prelude.{◌≡◌, ◌≢◌, ◌==◌, ◌-ℤ◌, if◌then◌else◌, ℕ, ℤ, pos, ◌+◌, ◌*◌, ◌^◌, ◌<◌, ◌≤◌, length, unsigned_abs, All};
+ghost use Rattle.std.specs.Prelude.{◌≡◌, ◌≢◌, ◌==◌, ◌-ℤ◌, if◌then◌else◌, pos, ◌+◌, ◌<◌, ◌≤◌, length, unsigned_abs, All};
 ghost use Rattle.std.specs.Int.{int_div_euclid};
 ghost use Rattle.int_program.specs.Sums.{at};
 ghost use Rattle.int_program.specs.Boxes.{IsNonempty, IsFromZero};
 ghost use Rattle.int_program.specs.Bounds.{least_of, part_least};
 ghost use Rattle.int_program.specs.Limits.{part_weight, weight, AreSmall, weight_limit};
-ghost use Rattle.int_program.specs.Tightening.{factor, left_over, others, shrunk, tight_ends, IsTightened};
+ghost use Rattle.int_program.specs.Tightening.{factor, others, shrunk, tight_ends, IsRowTightened};
 
 use crate::bounds::{End, part_end};
 use crate::program::{IpBox, Part, Row};
@@ -133,7 +133,7 @@ pub fn tighten(row: &Row, var: u32, within: &IpBox) -> Option<(i128, i128)>
     requires small { AreSmall row.now.parts row.now.most within.now.high }
     requires var { var < length within.now.high }
     ensures value { result ≡ tight_ends row.now var within.now }
-    ensures exact { IsTightened (factor row.now.parts var) (left_over row.now var within.now) (at within.now.low var) (at within.now.high var) result }
+    ensures exact { IsRowTightened row.now var within.now result }
 {
     ends_left(row, var, within)
 }

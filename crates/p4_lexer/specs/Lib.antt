@@ -5,3 +5,4 @@ pub mod Tokens
 pub mod BadPlaces
 pub mod OneTokenList
 pub mod Finding
+pub mod TextLimit

@@ -1,7 +1,8 @@
-ghost use Rattle.std.specs.Prelude.{◌≡◌, ℕ, ◌^◌, ◌≤◌, [], ◌∷◌, ◌++◌, List, length, All, IfOk, IfErr, OnOk};
+ghost use Rattle.std.specs.Prelude.{◌≡◌, ◌≤◌, [], ◌∷◌, ◌++◌, length, All, IfOk, IfErr, OnOk};
 ghost use Rattle.p4_lexer.specs.BadPlaces.{IsBadPlace, IsBad};
 ghost use Rattle.p4_lexer.specs.Tokens.{TokensOf, IsWithin};
 ghost use Rattle.p4_lexer.specs.OneTokenList.{HasOneTokenList, HasNoTokensWhereBad, HasOneBadPlace};
+ghost use Rattle.p4_lexer.specs.TextLimit.{most_text};
 
 use crate::spacing::{is_opening, spacing_end};
 use crate::token::{LexError, Token};
@@ -11,7 +12,7 @@ use std::alloc::Global;
 
 /// The tokens of a text. An error names the first bad place of the text, or says that there is no memory for the tokens.
 pub fn lex(alloc: Global, text: &[u8]) -> Result<Items<Token>, LexError>
-    requires { length text.now ≤ 16777216 }
+    requires { length text.now ≤ most_text }
     ensures tokens { IfOk result (λ tokens. TokensOf text.now tokens) }
     ensures within { IfOk result (λ tokens. All (IsWithin (length text.now)) tokens) }
     ensures few { IfOk result (λ tokens. length tokens ≤ length text.now) }
@@ -53,7 +54,7 @@ fn add(tokens: &mut Items<Token>, token: Token) -> Result<(), LexError>
 
 /// The error that names a bad place, and says what stands there.
 fn bad_at(text: &[u8], at: usize) -> LexError
-    requires short { length text.now ≤ 2 ^ 24 }
+    requires short { length text.now ≤ most_text }
     requires bad { IsBadPlace text.now at }
     ensures { IsBad text.now result }
 {

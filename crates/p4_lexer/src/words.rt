@@ -1,12 +1,12 @@
-ghost use Rattle.std.specs.Prelude.{◌≡◌, ◌≢◌, ℕ, ◌+◌, ◌^◌, ◌<◌, ◌≤◌, ◌↔◌, codes, IsTrue, true, false, length, slice_index, slice_range, take, IfSome, MatchOption};
+ghost use Rattle.std.specs.Prelude.{◌≡◌, ◌≢◌, ◌+◌, ◌<◌, ◌≤◌, ◌↔◌, codes, IsTrue, true, false, length, slice_index, take, IfSome, MatchOption};
 ghost use Rattle.std.specs.Char.{is_ascii_digit};
 ghost use Rattle.std.specs.List.{AllPass};
 ghost use Rattle.case_table.specs.Rows.{IsWordAt};
 ghost use Rattle.p4_lexer.specs.BadPlaces.{HasNoToken};
 ghost use Rattle.p4_lexer.specs.Finding.{IsFound, IsPieceRead, IsSignRead, AllBetween};
-ghost use Rattle.p4_lexer.specs.Numbers.{IsNoNumber};
-ghost use Rattle.p4_lexer.specs.Pieces.{is_word_byte, is_blank, reserved_words, signs, IsFile, IsPiece};
-ghost use Rattle.p4_lexer.specs.Tokens.{IsTokenAt, IsLongestSign};
+ghost use Rattle.p4_lexer.specs.Pieces.{is_word_byte, is_blank, reserved_words, IsFile};
+ghost use Rattle.p4_lexer.specs.Tokens.{IsTokenAt};
+ghost use Rattle.p4_lexer.specs.TextLimit.{most_text};
 
 use crate::numbers::number;
 use crate::tables::{RESERVED, SIGNS};
@@ -15,7 +15,7 @@ use case_table::{find, munch};
 
 /// The token that begins at `at`, the longest piece of the text there, or None where none begins there.
 pub fn token_at(text: &[u8], at: usize) -> Option<Token>
-    requires short { length text.now ≤ 2 ^ 24 }
+    requires short { length text.now ≤ most_text }
     requires within { at < length text.now }
     ensures { MatchOption result (HasNoToken text.now at) (IsTokenAt text.now at) }
 {
@@ -30,7 +30,7 @@ pub fn token_at(text: &[u8], at: usize) -> Option<Token>
 
 /// The number, the reserved word or the name at `at`, where a letter, a digit or `_` stands.
 fn word_at(text: &[u8], at: usize) -> Option<Token>
-    requires short { length text.now ≤ 2 ^ 24 }
+    requires short { length text.now ≤ most_text }
     requires within { at < length text.now }
     requires word { is_word_byte (slice_index text.now at) ≡ true }
     ensures { MatchOption result (HasNoToken text.now at) (IsTokenAt text.now at) }
@@ -78,7 +78,7 @@ fn longest_sign(text: &[u8], at: usize) -> Option<(u16, usize)>
 
 /// The sign at `at`, where no letter, digit, `_` or `#` stands.
 fn sign_at(text: &[u8], at: usize) -> Option<Token>
-    requires short { length text.now ≤ 2 ^ 24 }
+    requires short { length text.now ≤ most_text }
     requires within { at < length text.now }
     requires not_word { is_word_byte (slice_index text.now at) ≡ false }
     requires not_include { slice_index text.now at ≢ 35 }
@@ -94,7 +94,7 @@ fn sign_at(text: &[u8], at: usize) -> Option<Token>
 
 /// The include at `at`, where a `#` stands.
 fn include_at(text: &[u8], at: usize) -> Option<Token>
-    requires short { length text.now ≤ 2 ^ 24 }
+    requires short { length text.now ≤ most_text }
     requires within { at < length text.now }
     requires include { slice_index text.now at ≡ 35 }
     ensures { MatchOption result (HasNoToken text.now at) (IsTokenAt text.now at) }

@@ -14,9 +14,11 @@ use Rattle.size_terms.specs.declared.sums.Sum.{Sum}
 use Rattle.size_terms.specs.Rows.{IsShort}
 use Rattle.size_terms.specs.Coefficients.{rows_of_comp}
 use Rattle.size_terms.specs.Growth.{sum_worth, bulk, is_near}
+use Rattle.size_terms.specs.SumLimits.{most_bulk}
+use Rattle.elastic_ast.specs.Typing.LanguageLimits.{most_terms}
 
 abbrev pub is_short : Comp → Bool
-is_short comp = nat_le (length comp.left + length comp.right) 64 && (list_all is_near comp.left && list_all is_near comp.right)
+is_short comp = nat_le (length comp.left + length comp.right) most_terms && (list_all is_near comp.left && list_all is_near comp.right)
 
 -- a linear term whose number is small
 abbrev pub is_near_util : UtilTerm → Bool
@@ -27,7 +29,7 @@ is_near_util (util.Steps minus symbol pairs) = false
 pub record IsDifference (symbols : List Name) (comp : Comp) (sum : Sum) : Type 0 where
   pub worth : (sizes : List ℕ) → sum_worth sum sizes ≡ sum_value symbols sizes comp.left +ℤ neg_ℤ (sum_value symbols sizes comp.right)
   pub dense : length sum.by.items ≡ length symbols
-  pub bulky : bulk sum ≤ 64000000000
+  pub bulky : bulk sum ≤ most_bulk
 
 -- the row that says that a sum and a number are at most 0
 abbrev pub row_of_sum : ℕ → List ℤ → ℤ → Linear
@@ -54,4 +56,4 @@ pub record AddsComps (symbols : List Name) (old new : List Linear) (comps : List
 pub record IsUtility (symbols : List Name) (terms : List UtilTerm) (sum : Sum) : Type 0 where
   pub worth : (sizes : List ℕ) → sum_worth sum sizes ≡ utils_value symbols sizes terms
   pub dense : length sum.by.items ≡ length symbols
-  pub bulky : bulk sum ≤ 64000000000
+  pub bulky : bulk sum ≤ most_bulk

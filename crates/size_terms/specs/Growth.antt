@@ -1,6 +1,10 @@
 -- How a sum of sizes grows term by term; this project's own.
-use Rattle.std.specs.Prelude.{◌≡◌, ℕ, ◌+◌, ◌≤◌, Bool, List, length, map, ℤ, pos, ◌+ℤ◌, neg_ℤ, unsigned_abs, nat_le}
+use Rattle.std.specs.Prelude.{◌≡◌, ℕ, ◌+◌, ◌*◌, ◌*ℤ◌, ◌≤◌, Bool, List, length, map, ℤ, pos, ◌+ℤ◌, neg_ℤ, unsigned_abs, nat_le}
 use Rattle.elastic_ast.specs.declared.declarations.LinTerm.{LinTerm}
+use Rattle.elastic_ast.specs.declared.declarations.UtilTerm.{UtilTerm}
+use Rattle.elastic_ast.specs.Tree.{Name}
+use Rattle.elastic_ast.specs.Sizes.SizeSums.{size_of, signed, term_value, sum_value, util_value}
+use Rattle.elastic_ast.specs.Typing.LanguageLimits.{most_number}
 use Rattle.size_terms.specs.declared.sums.Sum.{Sum}
 use Rattle.size_terms.specs.Rows.{dot, weight}
 
@@ -19,7 +23,24 @@ pub record Grows (old new : Sum) (value : List ℕ → ℤ) (most : ℕ) : Type 
   pub bulky : bulk new ≤ bulk old + most
 
 abbrev pub is_near : LinTerm → Bool
-is_near term = nat_le term.by 1000000000
+is_near term = nat_le term.by most_number
+
+-- a sum has grown by a number times the size of a symbol
+abbrev pub GrowsBySymbol : List Name → Sum → Sum → Name → ℤ → Type 0
+GrowsBySymbol symbols old new name number = Grows old new (λ sizes. pos (size_of symbols sizes name) *ℤ number) (unsigned_abs number)
+
+-- by a term, or less by it
+abbrev pub GrowsByTerm : List Name → Sum → Sum → Bool → LinTerm → Type 0
+GrowsByTerm symbols old new minus term = Grows old new (λ sizes. signed minus (term_value symbols sizes term)) most_number
+
+-- by terms, or less by them
+abbrev pub GrowsByTerms : List Name → Sum → Sum → Bool → List LinTerm → Type 0
+GrowsByTerms symbols old new minus terms =
+    Grows old new (λ sizes. signed minus (sum_value symbols sizes terms)) (most_number * length terms)
+
+-- by a term of the utility
+abbrev pub GrowsByUtility : List Name → Sum → Sum → UtilTerm → Type 0
+GrowsByUtility symbols old new term = Grows old new (λ sizes. util_value symbols sizes term) most_number
 
 -- the sum of nothing
 pub record IsZero (sum : Sum) (symbols : ℕ) : Type 0 where

@@ -4,3 +4,5 @@ pub mod Coefficients
 pub mod Growth
 pub mod Building
 pub mod RowsMean
+pub mod SumLimits
+pub mod TermsMean

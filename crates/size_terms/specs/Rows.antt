@@ -2,6 +2,7 @@
 use Rattle.std.specs.Prelude.{◌≡◌, ℕ, ◌+◌, ◌≤◌, Bool, true, false, List, [], ◌∷◌, length, All, ℤ, pos, negsuc, ◌+ℤ◌, ◌*ℤ◌, ◌≤ℤ◌, unsigned_abs}
 use Rattle.elastic_ast.specs.declared.flat.Linear.{Linear}
 use Rattle.elastic_ast.specs.declared.flat.Terms.{Terms}
+use Rattle.size_terms.specs.SumLimits.{most_bulk, most_right_side}
 
 -- each coefficient times the size of its symbol, added up
 abbrev pub dot : List ℤ → List ℕ → ℤ
@@ -33,8 +34,8 @@ weight (by ∷ rest) = unsigned_abs by + weight rest
 -- a sum over this many symbols that no size of 64 bits can bring out of 128 bits
 pub record IsShort (symbols : ℕ) (by : List ℤ) (constant : ℤ) : Type 0 where
   pub dense : length by ≡ symbols
-  pub small : weight by ≤ 64000000000
-  pub near : unsigned_abs constant ≤ 64000000001
+  pub small : weight by ≤ most_bulk
+  pub near : unsigned_abs constant ≤ most_right_side
 
 -- the terms have one coefficient a symbol, and none that is large
 pub record AreShort (terms : Terms) : Type 0 where

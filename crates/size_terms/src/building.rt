@@ -1,16 +1,18 @@
 //! The terms of a program.
 
-ghost use Rattle.std.specs.Prelude.{◌≡◌, ◌↔◌, ◌≤◌, ◌++◌, true, [], List, ℕ, IfOk, OnOk, length};
+ghost use Rattle.std.specs.Prelude.{◌≡◌, ◌≤◌, ◌++◌, true, [], IfOk, OnOk, length};
 ghost use Rattle.std.specs.List.{list_all};
 ghost use Rattle.elastic_ast.specs.Seen.{seen_decl, seen_decls};
-ghost use Rattle.elastic_ast.specs.Tree.{PlainDecl};
-ghost use Rattle.elastic_ast.specs.Sizes.SizeSums.{symbol_name, symbols_of, comps_of as comps_of_decl, comparisons, utility_terms, utility, util_value, Compared, Assumes};
+ghost use Rattle.elastic_ast.specs.Sizes.SizeSums.{symbol_name, symbols_of, comps_of as comps_of_decl, comparisons, utility_terms, utility};
 ghost use Rattle.width_check.specs.Sound.{IsSound};
-ghost use Rattle.size_terms.specs.Rows.{RowsHold, AreShort, worth};
+ghost use Rattle.size_terms.specs.Rows.{AreShort, worth};
 ghost use Rattle.size_terms.specs.Coefficients.{rows_of};
 ghost use Rattle.size_terms.specs.Building.{AddsComps, is_short, is_near_util, IsUtility};
-ghost use Rattle.size_terms.specs.Growth.{Grows, bulk};
+ghost use Rattle.size_terms.specs.Growth.{bulk, GrowsByUtility};
 ghost use Rattle.size_terms.specs.RowsMean.{RowsSayComparisons};
+ghost use Rattle.size_terms.specs.SumLimits.{most_bulk};
+ghost use Rattle.elastic_ast.specs.Typing.LanguageLimits.{most_terms};
+ghost use Rattle.size_terms.specs.TermsMean.{AreAssumeRows, IsUtilityOf, SayAssumes, SayUtility};
 
 use crate::comparisons::push_comparison;
 use crate::places::Places;
@@ -68,7 +70,7 @@ fn assume_rows(
 ) -> Result<Items<Linear>, AllocError>
     requires dense { symbols ≡ length places.now }
     requires short { list_all is_short (comparisons (seen_decls decls.now)) ≡ true }
-    ensures { IfOk result (λ rows. AddsComps places.now [] rows (comparisons (seen_decls decls.now))) }
+    ensures { IfOk result (AreAssumeRows places.now (seen_decls decls.now)) }
 {
     let mut rows = Items::new(alloc);
     for decl in decls {
@@ -102,9 +104,9 @@ fn util_terms_of<'a>(decls: &'a [Decl]) -> &'a [UtilTerm]
 /// Adds a term of the utility.
 fn add_util(places: &Places<'_>, sum: &mut Sum, term: &UtilTerm)
     requires dense { length sum.old.by.items ≡ length places.now }
-    requires small { bulk sum.old ≤ 64000000000 }
+    requires small { bulk sum.old ≤ most_bulk }
     requires near { is_near_util term.now ≡ true }
-    ensures { Grows sum.old sum.new (λ sizes. util_value places.now sizes term.now) 1000000000 }
+    ensures { GrowsByUtility places.now sum.old sum.new term.now }
 {
     if let UtilTerm::Lin(term) = term {
         add_term(places, sum, term, false);
@@ -119,7 +121,7 @@ fn utility_sum(
     terms: &[UtilTerm],
 ) -> Result<Sum, AllocError>
     requires dense { symbols ≡ length places.now }
-    requires few { length terms.now ≤ 64 }
+    requires few { length terms.now ≤ most_terms }
     requires near { list_all is_near_util terms.now ≡ true }
     ensures { IfOk result (IsUtility places.now terms.now) }
 {
@@ -136,8 +138,8 @@ fn utility_sum(
 pub fn terms(alloc: Global, checked: &Checked) -> Result<Terms, AllocError>
     ensures symbols { IfOk result (λ terms. terms.symbols ≡ symbols_of (seen_decls checked.now)) }
     ensures rows { IfOk result (λ terms. terms.rows ≡ rows_of (seen_decls checked.now)) }
-    ensures assumes { IfOk result (λ terms. (sizes : List ℕ) → RowsHold terms.rows sizes ↔ Assumes (seen_decls checked.now) sizes) }
-    ensures utility { IfOk result (λ terms. (sizes : List ℕ) → worth terms sizes ≡ utility (seen_decls checked.now) sizes) }
+    ensures assumes { IfOk result (SayAssumes (seen_decls checked.now)) }
+    ensures utility { IfOk result (SayUtility (seen_decls checked.now)) }
     ensures short { IfOk result AreShort }
 {
     let decls = program(checked).decls.as_slice();
@@ -167,8 +169,8 @@ fn rows_and_utility(
     decls: &[Decl],
 ) -> Result<(Items<Linear>, Sum), AllocError>
     requires { IsSound (seen_decls decls.now) }
-    ensures rows { IfOk result (λ found. AddsComps symbols.now [] found.0 (comparisons (seen_decls decls.now))) }
-    ensures utility { IfOk result (λ found. IsUtility symbols.now (utility_terms (seen_decls decls.now)) found.1) }
+    ensures rows { IfOk result (λ found. AreAssumeRows symbols.now (seen_decls decls.now) found.0) }
+    ensures utility { IfOk result (λ found. IsUtilityOf symbols.now (seen_decls decls.now) found.1) }
 {
     let places = Places::of(alloc, symbols)?;
     let rows = assume_rows(alloc, &places, symbols.len(), decls)?;

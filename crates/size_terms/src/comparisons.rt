@@ -4,6 +4,7 @@ ghost use Rattle.std.specs.Prelude.{◌≡◌, ◌≤◌, true, [], ◌∷◌, �
 ghost use Rattle.size_terms.specs.Growth.{bulk};
 ghost use Rattle.size_terms.specs.Building.{AddsComps, IsDifference, is_short, row_of_sum, rows_of_sum};
 ghost use Rattle.elastic_ast.specs.declared.declarations.Rel.TheVariants as rel;
+ghost use Rattle.size_terms.specs.SumLimits.{most_bulk};
 
 use crate::places::Places;
 use crate::sums::{Sum, add_terms, negated, zero_sum};
@@ -30,7 +31,7 @@ fn difference(
 
 /// The row that says that a sum is negative or 0.
 fn row_at_most(sum: Sum) -> Linear
-    requires { bulk sum ≤ 64000000000 }
+    requires { bulk sum ≤ most_bulk }
     ensures { result ≡ row_of_sum 0 sum.by.items sum.constant }
 {
     let Sum { by, constant } = sum;
@@ -42,7 +43,7 @@ fn row_at_most(sum: Sum) -> Linear
 
 /// The row that says that a sum is negative.
 fn row_less(sum: Sum) -> Linear
-    requires { bulk sum ≤ 64000000000 }
+    requires { bulk sum ≤ most_bulk }
     ensures { result ≡ row_of_sum 1 sum.by.items sum.constant }
 {
     let Sum { by, constant } = sum;
@@ -61,7 +62,7 @@ fn push_row(rows: &mut Items<Linear>, row: Linear) -> Result<(), AllocError>
 
 /// Adds the row that says that a sum is negative or 0.
 fn push_at_most(rows: &mut Items<Linear>, sum: Sum) -> Result<(), AllocError>
-    requires { bulk sum ≤ 64000000000 }
+    requires { bulk sum ≤ most_bulk }
     ensures { OnOk result (rows.new ≡ rows.old ++ rows_of_sum rel.Le sum.by.items sum.constant) }
 {
     push_row(rows, row_at_most(sum))
@@ -69,7 +70,7 @@ fn push_at_most(rows: &mut Items<Linear>, sum: Sum) -> Result<(), AllocError>
 
 /// Adds the row that says that a sum is negative.
 fn push_less(rows: &mut Items<Linear>, sum: Sum) -> Result<(), AllocError>
-    requires { bulk sum ≤ 64000000000 }
+    requires { bulk sum ≤ most_bulk }
     ensures { OnOk result (rows.new ≡ rows.old ++ rows_of_sum rel.Lt sum.by.items sum.constant) }
 {
     push_row(rows, row_less(sum))
@@ -77,7 +78,7 @@ fn push_less(rows: &mut Items<Linear>, sum: Sum) -> Result<(), AllocError>
 
 /// Adds the rows that say how a sum compares with 0.
 fn push_rows(alloc: Global, rows: &mut Items<Linear>, sum: Sum, rel: Rel) -> Result<(), AllocError>
-    requires { bulk sum ≤ 64000000000 }
+    requires { bulk sum ≤ most_bulk }
     ensures { OnOk result (rows.new ≡ rows.old ++ rows_of_sum rel sum.by.items sum.constant) }
 {
     match rel {

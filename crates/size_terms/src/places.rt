@@ -59,6 +59,7 @@ impl<'a> Places<'a> {
     pub fn place_of(&self, name: &Name) -> Option<usize>
         ensures { result ≡ place_of_all self.now name.now }
     {
+        // A field is named, so that what holds of the fields is known.
         let _ = &self.symbols;
         self.table.get(name.as_slice()).copied()
     }

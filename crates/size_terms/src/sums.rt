@@ -1,10 +1,12 @@
 //! Sums of sizes, term by term.
 
-ghost use Rattle.std.specs.Prelude.{◌≡◌, ◌≤◌, ◌<◌, ◌+◌, ◌*◌, ◌^◌, true, pos, ◌*ℤ◌, neg_ℤ, unsigned_abs, length, map, IfOk};
+ghost use Rattle.std.specs.Prelude.{◌≡◌, ◌≤◌, ◌<◌, ◌+◌, ◌*◌, ◌^◌, true, pos, neg_ℤ, unsigned_abs, length, map, IfOk};
 ghost use Rattle.std.specs.List.{list_all};
 ghost use Rattle.size_terms.specs.Rows.{weight};
-ghost use Rattle.elastic_ast.specs.Sizes.SizeSums.{signed, term_value, size_of, sum_value};
-ghost use Rattle.size_terms.specs.Growth.{Grows, IsZero, Negates, bulk, is_near};
+ghost use Rattle.elastic_ast.specs.Sizes.SizeSums.{signed};
+ghost use Rattle.size_terms.specs.Growth.{Grows, IsZero, Negates, bulk, is_near, GrowsBySymbol, GrowsByTerm, GrowsByTerms};
+ghost use Rattle.size_terms.specs.SumLimits.{most_bulk};
+ghost use Rattle.elastic_ast.specs.Typing.LanguageLimits.{most_terms};
 
 use crate::places::Places;
 use elastic_ast::LinTerm;
@@ -33,7 +35,7 @@ fn signed_number(number: u64, first: bool, second: bool) -> i128
 fn add_to_symbol(places: &Places<'_>, sum: &mut Sum, symbol: &Name, number: i128)
     requires dense { length sum.old.by.items ≡ length places.now }
     requires small { bulk sum.old + unsigned_abs number < 2 ^ 100 }
-    ensures { Grows sum.old sum.new (λ sizes. pos (size_of places.now sizes symbol.now) *ℤ number) (unsigned_abs number) }
+    ensures { GrowsBySymbol places.now sum.old sum.new symbol.now number }
 {
     if let Some(place) = places.place_of(symbol) {
         sum.by[place] += number;
@@ -51,9 +53,9 @@ fn add_number(sum: &mut Sum, number: i128)
 /// Adds a term, or takes it away.
 pub fn add_term(places: &Places<'_>, sum: &mut Sum, term: &LinTerm, minus: bool)
     requires dense { length sum.old.by.items ≡ length places.now }
-    requires small { bulk sum.old ≤ 128000000000 }
+    requires small { bulk sum.old ≤ 2 * most_bulk }
     requires near { is_near term.now ≡ true }
-    ensures { Grows sum.old sum.new (λ sizes. signed minus (term_value places.now sizes term.now)) 1000000000 }
+    ensures { GrowsByTerm places.now sum.old sum.new minus term.now }
 {
     let number = signed_number(term.by, minus, term.minus);
     match &term.symbol {
@@ -65,10 +67,10 @@ pub fn add_term(places: &Places<'_>, sum: &mut Sum, term: &LinTerm, minus: bool)
 /// Adds terms, or takes them away.
 pub fn add_terms(places: &Places<'_>, sum: &mut Sum, terms: &[LinTerm], minus: bool)
     requires dense { length sum.old.by.items ≡ length places.now }
-    requires small { bulk sum.old ≤ 64000000000 }
-    requires few { length terms.now ≤ 64 }
+    requires small { bulk sum.old ≤ most_bulk }
+    requires few { length terms.now ≤ most_terms }
     requires near { list_all is_near terms.now ≡ true }
-    ensures { Grows sum.old sum.new (λ sizes. signed minus (sum_value places.now sizes terms.now)) (1000000000 * length terms.now) }
+    ensures { GrowsByTerms places.now sum.old sum.new minus terms.now }
 {
     for term in terms {
         add_term(places, sum, term, minus);
@@ -85,7 +87,7 @@ pub fn zero_sum(alloc: Global, symbols: usize) -> Result<Sum, AllocError>
 
 /// A sum with its sign turned.
 pub fn negated(alloc: Global, sum: &Sum) -> Result<Sum, AllocError>
-    requires { bulk sum.now ≤ 64000000000 }
+    requires { bulk sum.now ≤ most_bulk }
     ensures { IfOk result (λ other. Negates sum.now other) }
 {
     let by = negated_numbers(alloc, sum.by.as_slice())?;
@@ -96,7 +98,7 @@ pub fn negated(alloc: Global, sum: &Sum) -> Result<Sum, AllocError>
 }
 
 fn negated_numbers(alloc: Global, numbers: &[i128]) -> Result<Vec<i128>, AllocError>
-    requires { weight numbers.now ≤ 64000000000 }
+    requires { weight numbers.now ≤ most_bulk }
     ensures { IfOk result (λ other. other.items ≡ map neg_ℤ numbers.now) }
 {
     let mut other = Vec::new(alloc);

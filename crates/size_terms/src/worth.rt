@@ -2,12 +2,13 @@
 
 ghost use Rattle.std.specs.Prelude.{◌≡◌, ◌≤◌, ◌*◌, ◌^◌, ◌↔◌, IsTrue, length, unsigned_abs, pos, ◌*ℤ◌};
 ghost use Rattle.size_terms.specs.Rows.{dot, weight, worth, IsShort, RowHolds, RowsHold, AreShort};
+ghost use Rattle.size_terms.specs.SumLimits.{most_bulk};
 
 use elastic_ast::{Linear, Sizes, Terms};
 
 /// A size times a coefficient.
 fn product(size: u64, by: i128) -> i128
-    requires { unsigned_abs by ≤ 64000000000 }
+    requires { unsigned_abs by ≤ most_bulk }
     ensures { result ≡ pos size *ℤ by }
 {
     i128::from(size) * by
@@ -16,7 +17,7 @@ fn product(size: u64, by: i128) -> i128
 /// Each coefficient times the size of its symbol, added up.
 fn dot_of(by: &[i128], sizes: &[u64]) -> i128
     requires dense { length by.now ≡ length sizes.now }
-    requires small { weight by.now ≤ 64000000000 }
+    requires small { weight by.now ≤ most_bulk }
     ensures value { result ≡ dot by.now sizes.now }
     ensures most { unsigned_abs result ≤ weight by.now * 2 ^ 64 }
 {

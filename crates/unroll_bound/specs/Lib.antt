@@ -1,4 +1,6 @@
-pub mod HeaderUse
-pub mod Bound
-pub mod LoweredBounds
+-- The bounds of a program's sizes on a target, by the rules that give them.
 pub mod ProgramBounds
+pub mod Bound
+-- The header bits as they are counted, and bounds as they are lowered row by row.
+pub mod HeaderUse
+pub mod LoweredBounds

@@ -1,6 +1,6 @@
 //! The header bits that a program takes.
 
-ghost use Rattle.std.specs.Prelude.{◌≡◌, ◌≤◌, ◌<◌, ◌-◌, ◌^◌, ◌↔◌, IsTrue, length, Some, [], ◌∷◌, IfOk};
+ghost use Rattle.std.specs.Prelude.{◌≡◌, ◌≤◌, ◌<◌, ◌-◌, ◌↔◌, IsTrue, length, Some, [], ◌∷◌, IfOk};
 ghost use Rattle.elastic_ast.specs.Seen.{seen_decls};
 ghost use Rattle.elastic_ast.specs.Sizes.SizeSums.{symbols_of};
 ghost use Rattle.elastic_ast.specs.Typing.LookUps.{meta_fields};

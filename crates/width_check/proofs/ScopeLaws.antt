@@ -2,7 +2,7 @@
 use Rattle.std.proofs.lemmas.Bool.{and_from, and_parts, not-true, or_left, or_from, or_right, or_parts}
 use Rattle.std.proofs.lemmas.List.{append-nil}
 use Rattle.std.proofs.Common.{◌≡◌, ℕ, zero, suc, ◌+◌, ◌<◌, Bool, true, false, not, cond, ◌||◌, List, [], ◌∷◌, ◌++◌, map, take, drop, length, get_or, Option, Some, None, refl, sym, ap, subst, ◌∙◌, true≢false, arith, add-one, append_assoc, is_some}
-use Rattle.std.specs.Prelude.{◌==◌, if◌then◌else◌, nat_eq, option_map, option_and_then}
+use Rattle.std.specs.Prelude.{if◌then◌else◌, nat_eq, option_map, option_and_then}
 use Rattle.std.specs.Map.{lookup}
 use Rattle.std.specs.Cmp.Lexicographic.{pointwise, same_text}
 use Rattle.std.proofs.lemmas.List.Folds.{list_any-append}

@@ -3,3 +3,4 @@ pub mod Scoped
 pub mod Supported
 pub mod Broken
 pub mod Sound
+pub mod FirstRules

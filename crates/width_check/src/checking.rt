@@ -1,11 +1,10 @@
 //! The check of a whole program.
 
-ghost use Rattle.std.specs.Prelude.{◌≡◌, ◌≤◌, ◌<◌, ◌+◌, ◌*◌, length, slice_get, [], Some, None, true, IfOk, OnOk, IfErr};
+ghost use Rattle.std.specs.Prelude.{◌≡◌, ◌≤◌, ◌<◌, ◌+◌, length, slice_get, Some, None, true, IfOk, OnOk, IfErr};
 ghost use Rattle.std.specs.List.{list_all};
 ghost use Rattle.elastic_ast.specs.Seen.{seen_decl, seen_decls, seen_program};
-ghost use Rattle.elastic_ast.specs.Typing.Typed.{Typed, broken_rule, first_of};
-ghost use Rattle.width_check.specs.Scoped.{before_of};
-ghost use Rattle.width_check.specs.Table.{IsRefusal};
+ghost use Rattle.elastic_ast.specs.Typing.Typed.{Typed};
+ghost use Rattle.width_check.specs.FirstRules.{RefusedBy, Passes, next_breaks, list_breaks};
 ghost use Rattle.width_check.specs.Sound.{IsSound};
 ghost use Rattle.width_check.specs.Broken.{IsBroken, IsFirst, most_declarations};
 ghost use Rattle.width_check.specs.Supported.{is_supported as is_supported_of, is_linear as is_linear_of};
@@ -95,8 +94,8 @@ fn check_next<'a>(
     requires here { slice_get scope.old.0 scope.old.1 ≡ Some decl.now }
     requires supported { is_supported_of (seen_decl decl.now) ≡ true }
     ensures passed { OnOk result (scope.new ≡ (scope.old.0, scope.old.1 + 1)) }
-    ensures fine { OnOk result (broken_rule allow_reserved (before_of scope.old) (seen_decl decl.now) ≡ None) }
-    ensures refused { IfErr result (λ refusal. IsRefusal refusal (broken_rule allow_reserved (before_of scope.old) (seen_decl decl.now))) }
+    ensures fine { Passes (next_breaks allow_reserved scope.old decl.now) result }
+    ensures refused { RefusedBy (next_breaks allow_reserved scope.old decl.now) result }
 {
     let first = scope.is_first(decl);
     let own = check_declaration(alloc, allow_reserved, scope, decl);
@@ -113,7 +112,7 @@ fn check_next<'a>(
 /// The first rule that a declaration of a program breaks.
 fn walk(alloc: Global, allow_reserved: bool, decls: &[Decl]) -> Result<(), CheckError>
     requires { length decls.now ≤ most_declarations }
-    ensures fine { OnOk result (first_of (broken_rule allow_reserved) 0 [] (seen_decls decls.now) ≡ None) }
+    ensures fine { OnOk result (list_breaks allow_reserved decls.now ≡ None) }
     ensures supported { OnOk result (list_all is_supported_of (seen_decls decls.now) ≡ true) }
     ensures refused { IfErr result (IsFirst allow_reserved (seen_decls decls.now)) }
 {

@@ -1,12 +1,11 @@
 //! What each declaration asks, over the scope before it.
 
-ghost use Rattle.std.specs.Prelude.{◌≡◌, true, [], map, flat_map, IfOk, IfErr, OnOk, None};
+ghost use Rattle.std.specs.Prelude.{◌≡◌, true, OnOk, None};
 ghost use Rattle.elastic_ast.specs.Seen.{seen_decl};
 ghost use Rattle.elastic_ast.specs.Typing.Scope.{or_else};
 ghost use Rattle.elastic_ast.specs.Typing.Demand.{first_broken};
-ghost use Rattle.elastic_ast.specs.Typing.AskedOfNames.{asks_symbol, asks_names};
-ghost use Rattle.elastic_ast.specs.Typing.Asked.{asks_term, asks_comp, asks_util, asks_field, asks_fields, asks_decl, field_name};
-ghost use Rattle.width_check.specs.Table.{IsRefusal};
+ghost use Rattle.elastic_ast.specs.Typing.Asked.{asks_term, asks_comp, asks_util, asks_field};
+ghost use Rattle.width_check.specs.FirstRules.{RefusedBy, each_breaks, field_names_break, fields_break, inside_breaks, Passes, symbol_breaks};
 ghost use Rattle.width_check.specs.Scoped.{before_of};
 ghost use Rattle.width_check.specs.Supported.{is_supported, is_linear};
 ghost use Rattle.std.specs.List.{list_all};
@@ -36,7 +35,7 @@ fn either(first: Option<Rule>, second: Option<Rule>) -> Option<Rule>
 
 /// Whether a name that stands for a size is that of a symbol.
 fn check_symbol(allow_reserved: bool, scope: &Scope<'_>, symbol: &Option<Name>) -> Option<Rule>
-    ensures { result ≡ first_broken allow_reserved (asks_symbol (before_of scope.now) symbol.now) }
+    ensures { result ≡ symbol_breaks allow_reserved scope.now symbol.now }
 {
     match symbol {
         Some(name) => {
@@ -60,7 +59,7 @@ fn check_term(allow_reserved: bool, scope: &Scope<'_>, term: &LinTerm) -> Option
 }
 
 fn check_terms(allow_reserved: bool, scope: &Scope<'_>, terms: &[LinTerm]) -> Option<Rule>
-    ensures { result ≡ first_broken allow_reserved (flat_map (asks_term (before_of scope.now)) terms.now) }
+    ensures { result ≡ each_breaks allow_reserved (asks_term (before_of scope.now)) terms.now }
 {
     for term in terms {
         match check_term(allow_reserved, scope, term) {
@@ -87,7 +86,7 @@ fn check_comparison(allow_reserved: bool, scope: &Scope<'_>, comp: &Comp) -> Opt
 
 #[tactic(auto, using(elastic_ast::proofs::Typing::First::firsts))]
 fn check_assume(allow_reserved: bool, scope: &Scope<'_>, comps: &[Comp]) -> Option<Rule>
-    ensures { result ≡ first_broken allow_reserved (flat_map (asks_comp (before_of scope.now)) comps.now) }
+    ensures { result ≡ each_breaks allow_reserved (asks_comp (before_of scope.now)) comps.now }
 {
     for comp in comps {
         match check_comparison(allow_reserved, scope, comp) {
@@ -115,7 +114,7 @@ fn check_util(allow_reserved: bool, scope: &Scope<'_>, term: &UtilTerm) -> Optio
 #[tactic(auto, using(elastic_ast::proofs::Typing::First::firsts))]
 fn check_utility(allow_reserved: bool, scope: &Scope<'_>, terms: &[UtilTerm]) -> Option<Rule>
     requires { list_all is_linear terms.now ≡ true }
-    ensures { result ≡ first_broken allow_reserved (flat_map (asks_util (before_of scope.now)) terms.now) }
+    ensures { result ≡ each_breaks allow_reserved (asks_util (before_of scope.now)) terms.now }
 {
     for term in terms {
         match check_util(allow_reserved, scope, term) {
@@ -137,7 +136,7 @@ fn check_field(allow_reserved: bool, scope: &Scope<'_>, field: &Field) -> Option
 
 #[tactic(auto, using(elastic_ast::proofs::Typing::First::firsts))]
 fn check_fields(allow_reserved: bool, scope: &Scope<'_>, fields: &[Field]) -> Option<Rule>
-    ensures { result ≡ first_broken allow_reserved (flat_map (asks_field (before_of scope.now)) fields.now) }
+    ensures { result ≡ each_breaks allow_reserved (asks_field (before_of scope.now)) fields.now }
 {
     for field in fields {
         match check_field(allow_reserved, scope, field) {
@@ -150,8 +149,8 @@ fn check_fields(allow_reserved: bool, scope: &Scope<'_>, fields: &[Field]) -> Op
 
 /// Whether the names of fields may stand in one scope.
 fn check_field_names(alloc: Global, allow_reserved: bool, fields: &[Field]) -> Result<(), Refusal>
-    ensures fresh { OnOk result (first_broken allow_reserved (asks_names [] (map field_name fields.now)) ≡ None) }
-    ensures refused { IfErr result (λ refusal. IsRefusal refusal (first_broken allow_reserved (asks_names [] (map field_name fields.now)))) }
+    ensures fresh { OnOk result (field_names_break allow_reserved fields.now ≡ None) }
+    ensures refused { RefusedBy (field_names_break allow_reserved fields.now) result }
 {
     let mut names: IndexMap<&[u8], ()> = IndexMap::new(alloc);
     for field in fields {
@@ -162,7 +161,7 @@ fn check_field_names(alloc: Global, allow_reserved: bool, fields: &[Field]) -> R
 
 fn refusal_of(broken: Option<Rule>) -> Result<(), Refusal>
     ensures fine { OnOk result (broken ≡ None) }
-    ensures refused { IfErr result (λ refusal. IsRefusal refusal broken) }
+    ensures refused { RefusedBy broken result }
 {
     match broken {
         Some(rule) => Err(Refusal::Broken(rule)),
@@ -176,8 +175,8 @@ fn check_metadata(
     scope: &Scope<'_>,
     fields: &[Field],
 ) -> Result<(), Refusal>
-    ensures fine { OnOk result (first_broken allow_reserved (asks_fields (before_of scope.now) fields.now) ≡ None) }
-    ensures refused { IfErr result (λ refusal. IsRefusal refusal (first_broken allow_reserved (asks_fields (before_of scope.now) fields.now))) }
+    ensures fine { Passes (fields_break allow_reserved scope.now fields.now) result }
+    ensures refused { RefusedBy (fields_break allow_reserved scope.now fields.now) result }
 {
     match check_field_names(alloc, allow_reserved, fields) {
         Ok(()) => refusal_of(check_fields(allow_reserved, scope, fields)),
@@ -193,8 +192,8 @@ pub fn check_declaration(
     decl: &Decl,
 ) -> Result<(), Refusal>
     requires { is_supported (seen_decl decl.now) ≡ true }
-    ensures fine { OnOk result (first_broken allow_reserved (asks_decl (before_of scope.now) (seen_decl decl.now)) ≡ None) }
-    ensures refused { IfErr result (λ refusal. IsRefusal refusal (first_broken allow_reserved (asks_decl (before_of scope.now) (seen_decl decl.now)))) }
+    ensures fine { Passes (inside_breaks allow_reserved scope.now decl.now) result }
+    ensures refused { RefusedBy (inside_breaks allow_reserved scope.now decl.now) result }
 {
     match decl {
         Decl::Assume(comps) => refusal_of(check_assume(allow_reserved, scope, comps.as_slice())),

@@ -1,15 +1,14 @@
 //! The names that stand in the scope of the program, after the declarations so far.
 
-ghost use Rattle.std.specs.Prelude.{◌≡◌, ◌<◌, ◌+◌, ◌++◌, ◌==◌, ◌||◌, true, length, OnOk, OnErr, IfErr, None, is_some};
+ghost use Rattle.std.specs.Prelude.{◌≡◌, ◌<◌, ◌+◌, ◌==◌, ◌||◌, true, length, OnOk, OnErr, None, is_some};
 ghost use Rattle.std.specs.Option.{option_copied};
 ghost use Rattle.elastic_ast.specs.Seen.{seen_decl};
 ghost use Rattle.elastic_ast.specs.Typing.Scope.{is_symbol as is_symbol_of, symbol_of};
-ghost use Rattle.elastic_ast.specs.Typing.AskedOfNames.{asks_names, top_name};
+ghost use Rattle.elastic_ast.specs.Typing.AskedOfNames.{top_name};
 ghost use Rattle.elastic_ast.specs.Typing.Asked.{DeclKind, is_of_kind, is_first as is_first_of};
+ghost use Rattle.width_check.specs.FirstRules.{IsDeclared, RefusedBy, declared_breaks, Passes};
 ghost use Rattle.width_check.specs.Supported.{is_supported};
-ghost use Rattle.elastic_ast.specs.Typing.Demand.{first_broken};
-ghost use Rattle.width_check.specs.Table.{names_in, IsRefusal};
-ghost use Rattle.width_check.specs.Scoped.{option_list, before_of, name_broken, entries_seen, names_with};
+ghost use Rattle.width_check.specs.Scoped.{option_list, before_of, name_broken};
 
 use crate::table::{Refusal, put};
 use elastic_ast::Decl;
@@ -104,9 +103,9 @@ fn declare<'a>(
     decl: &'a Decl,
     allow_reserved: bool,
 ) -> Result<(), Refusal>
-    ensures added { OnOk result (entries_seen names.new.entries ≡ entries_seen names.old.entries ++ names_with (seen_decl decl.now)) }
-    ensures fresh { OnOk result (first_broken allow_reserved (asks_names (names_in names.old.entries) (top_name (seen_decl decl.now))) ≡ None) }
-    ensures refused { IfErr result (λ refusal. IsRefusal refusal (first_broken allow_reserved (asks_names (names_in names.old.entries) (top_name (seen_decl decl.now))))) }
+    ensures added { OnOk result (IsDeclared names.old.entries names.new.entries decl.now) }
+    ensures fresh { Passes (declared_breaks allow_reserved names.old.entries decl.now) result }
+    ensures refused { RefusedBy (declared_breaks allow_reserved names.old.entries decl.now) result }
     ensures kept { OnErr result (names.new.entries ≡ names.old.entries) }
 {
     match name_of(decl) {
@@ -135,7 +134,7 @@ impl<'a> Scope<'a> {
         ensures passed { OnOk result (self.new ≡ (self.old.0, self.old.1 + 1)) }
         ensures kept { OnErr result (self.new ≡ self.old) }
         ensures fresh { OnOk result (name_broken allow_reserved self.old ≡ None) }
-        ensures refused { IfErr result (λ refusal. IsRefusal refusal (name_broken allow_reserved self.old)) }
+        ensures refused { RefusedBy (name_broken allow_reserved self.old) result }
     {
         let decl = &self.decls[self.count];
         match declare(&mut self.names, decl, allow_reserved) {
@@ -153,6 +152,7 @@ impl<'a> Scope<'a> {
         requires { is_supported (seen_decl decl.now) ≡ true }
         ensures { result ≡ is_first_of (before_of self.now) (seen_decl decl.now) }
     {
+        // A field is named, so that what holds of the fields is known.
         let _ = &self.decls;
         match decl {
             Decl::Maximize(_) => !self.has_utility,
@@ -165,6 +165,7 @@ impl<'a> Scope<'a> {
     pub fn is_symbol(&self, name: &Name) -> bool
         ensures { result ≡ is_symbol_of (before_of self.now) name.now }
     {
+        // A field is named, so that what holds of the fields is known.
         let _ = &self.decls;
         match self.names.get(name.as_slice()) {
             Some(decl) => is_symbol_named(name, decl),

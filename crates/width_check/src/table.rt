@@ -1,10 +1,10 @@
 //! The names of one scope, each with what stands under it.
 
-ghost use Rattle.std.specs.Prelude.{◌≡◌, [], ◌∷◌, ◌++◌, map, IfErr, OnErr, OnOk};
+ghost use Rattle.std.specs.Prelude.{◌≡◌, [], ◌∷◌, ◌++◌, OnErr, OnOk};
 ghost use Rattle.elastic_ast.specs.Typing.Scope.{among};
-ghost use Rattle.elastic_ast.specs.Typing.Demand.{has_underscores as has_underscores_of, fixed_names, first_broken};
-ghost use Rattle.elastic_ast.specs.Typing.AskedOfNames.{asks_names};
-ghost use Rattle.width_check.specs.Table.{names_in, name_rule, IsRefusal};
+ghost use Rattle.elastic_ast.specs.Typing.Demand.{has_underscores as has_underscores_of, fixed_names};
+ghost use Rattle.width_check.specs.FirstRules.{RefusedBy, name_breaks};
+ghost use Rattle.width_check.specs.Table.{name_rule};
 
 use elastic_ast::Rule;
 use indexmap::IndexMap;
@@ -73,8 +73,8 @@ pub fn put<'a, V: Drop>(
     allow_reserved: bool,
 ) -> Result<(), Refusal>
     ensures added { OnOk result (names.new.entries ≡ names.old.entries ++ (name.entry, value) ∷ []) }
-    ensures fresh { OnOk result (first_broken allow_reserved (asks_names (names_in names.old.entries) (name.now ∷ [])) ≡ None) }
-    ensures refused { IfErr result (λ refusal. IsRefusal refusal (first_broken allow_reserved (asks_names (names_in names.old.entries) (name.now ∷ [])))) }
+    ensures fresh { OnOk result (name_breaks allow_reserved names.old.entries name.now ≡ None) }
+    ensures refused { RefusedBy (name_breaks allow_reserved names.old.entries name.now) result }
     ensures kept { OnErr result (names.new.entries ≡ names.old.entries) }
 {
     let known = names.contains_key(name);

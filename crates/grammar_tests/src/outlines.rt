@@ -142,6 +142,13 @@ fn put_decl(alloc: Global, to: &mut Vec<u8>, decl: &Decl) -> Result<(), AllocErr
             to.extend_from_slice(b"register")?;
             put_sized(alloc, to, name, *width, size)
         }
+        part => put_part(alloc, to, part),
+    }
+}
+
+/// Adds a part of the pipeline.
+fn put_part(alloc: Global, to: &mut Vec<u8>, part: &Decl) -> Result<(), AllocError> {
+    match part {
         Decl::Parser { name, states } => {
             put_name(to, b"parser ", name)?;
             put_states(to, states.as_slice())
@@ -164,5 +171,6 @@ fn put_decl(alloc: Global, to: &mut Vec<u8>, decl: &Decl) -> Result<(), AllocErr
             put_name(to, b" ", control)?;
             put_name(to, b" ", deparser)
         }
+        _ => Ok(()),
     }
 }
