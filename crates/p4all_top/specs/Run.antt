@@ -1,5 +1,5 @@
 -- What a run of a command does to the shelf and the sink, and how it ends; this project's own.
-use Rattle.std.specs.Prelude.{◌≡◌, ◌⊎◌, ℕ, List, [], ◌∷◌, Option, IfSome, option_map}
+use Rattle.std.specs.Prelude.{◌≡◌, ◌≤◌, ◌⊎◌, ℕ, List, [], ◌∷◌, Option, IfSome, option_map}
 use Rattle.std.specs.FinMap.{insert}
 use Rattle.elx_io.specs.Appends.{Appends, AppendsFront}
 use Rattle.elx_io.specs.Call.{Call}
@@ -80,7 +80,8 @@ pub record IsRun (command : Command) (ended : Status) (before now : Outside) : T
   pub calls : HasCalled command ended before.holds before.told now.told
   pub files : MayChange command before.holds now.holds
 
--- a fault is the status only where the count of the shelf or that of the sink rose, and else both are as before
+-- a fault is the status only where the count of the shelf or that of the sink rose, and neither fell; else both are as before
 abbrev pub FaultsAre : Status → ℕ → ℕ → ℕ → ℕ → Type 0
-FaultsAre status.Fault shelf_before shelf_now sink_before sink_now = Rose shelf_before shelf_now ⊎ Rose sink_before sink_now
+FaultsAre status.Fault shelf_before shelf_now sink_before sink_now =
+    (shelf_before ≤ shelf_now) × (sink_before ≤ sink_now) × (Rose shelf_before shelf_now ⊎ Rose sink_before sink_now)
 FaultsAre _ shelf_before shelf_now sink_before sink_now = (shelf_now ≡ shelf_before) × (sink_now ≡ sink_before)
