@@ -29,7 +29,7 @@ pub fn assume(alloc: Global, reader: &mut Reader<'_>, depth: u32) -> Result<Decl
     ensures { ReadsFlat PlainDecl.Assume depth reader.old reader.new result }
 {
     reader.fixed_name(b"assume")?;
-    let comps = assumed(alloc, reader, depth)?;
+    let comps = assume_body(alloc, reader, depth)?;
     reader.sign(b";")?;
     Ok(Decl::Assume(comps))
 }
@@ -39,13 +39,17 @@ pub fn maximize(alloc: Global, reader: &mut Reader<'_>, depth: u32) -> Result<De
     ensures { ReadsFlat PlainDecl.Maximize depth reader.old reader.new result }
 {
     reader.fixed_name(b"maximize")?;
-    let terms = maximized(alloc, reader, depth)?;
+    let terms = maximize_body(alloc, reader, depth)?;
     reader.sign(b";")?;
     Ok(Decl::Maximize(terms))
 }
 
 /// `(COMPARISONS)`
-fn assumed(alloc: Global, reader: &mut Reader<'_>, depth: u32) -> Result<Items<Comp>, SyntaxError>
+fn assume_body(
+    alloc: Global,
+    reader: &mut Reader<'_>,
+    depth: u32,
+) -> Result<Items<Comp>, SyntaxError>
     ensures { ReadsWithin SpellsAssumption itself depth reader.old reader.new result }
 {
     in_brackets(
@@ -58,7 +62,7 @@ fn assumed(alloc: Global, reader: &mut Reader<'_>, depth: u32) -> Result<Items<C
 }
 
 /// `(UTILITY)`
-fn maximized(
+fn maximize_body(
     alloc: Global,
     reader: &mut Reader<'_>,
     depth: u32,

@@ -31,8 +31,8 @@ const WEAKEST: u8 = 10;
 /// How many operators an expression may have.
 const MOST_OPERATORS: u32 = 64;
 
-/// Reads the longest expression that stands at a token of a text, which is counted from 0, and gives the place behind it.
-/// Takes the text in bytes, its tokens, and how many brackets may be open at a token.
+/// Reads the expression that stands at a token of a text, which is counted from 0, and gives the place behind it, where no
+/// operator stands and no slice. Takes the text in bytes, its tokens, and how many brackets may be open at a token.
 ///
 /// NotProgram names the token at which the reading stopped: what stands before it is no expression, and doesn't go on there.
 /// TooDeep names a token that opens a bracket where `most_depth` stand open before it, or begins an operator where as many
@@ -59,7 +59,8 @@ pub fn expr(
     }
 }
 
-/// Reads the longest expression that stands next. `depth` is how many brackets may be open from here on.
+/// Reads the expression that stands next, up to where no operator stands and no slice. `depth` is how many brackets may be
+/// open from here on.
 pub fn read_expr(alloc: Global, reader: &mut Reader<'_>, depth: u32) -> Result<Expr, SyntaxError>
     ensures taken { TakesWhole depth reader.old reader.new result }
     ensures few { IfOk result (λ e. HasFewOperators (seen_expr e)) }

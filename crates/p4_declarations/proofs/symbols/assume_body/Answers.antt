@@ -4,7 +4,7 @@ use Rattle.p4_declarations.specs.GoesOn.{comparison_signs}
 use Rattle.spelling.proofs.ByParts.{around}
 use Rattle.spelling.proofs.InLines.{before_up_to}
 use Rattle.spelling.proofs.Only.{ends_sign}
-use Rattle.p4_declarations.proofs.symbols.assumed.Goals as goal
+use Rattle.p4_declarations.proofs.symbols.assume_body.Goals as goal
 
 pub returns : goal.returns
 returns c =

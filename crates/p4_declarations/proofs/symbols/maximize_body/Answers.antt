@@ -4,7 +4,7 @@ use Rattle.p4_declarations.specs.GoesOn.{sum_signs}
 use Rattle.spelling.proofs.ByParts.{around}
 use Rattle.spelling.proofs.InLines.{within_before_up_to}
 use Rattle.spelling.proofs.Only.{ends_sign}
-use Rattle.p4_declarations.proofs.symbols.maximized.Goals as goal
+use Rattle.p4_declarations.proofs.symbols.maximize_body.Goals as goal
 
 pub returns : goal.returns
 returns c =
