@@ -11,7 +11,7 @@ use Rattle.std.proofs.lemmas.Bool.{false≢true}
 use Rattle.std.specs.Str.{bytes_eq}
 use Rattle.std.proofs.lemmas.Slice.Eq.{bytes_eq-Decides}
 use Rattle.case_table.specs.declared.rows.Case.{Case}
-use Rattle.case_table.specs.Rows.{code_of, HasRow, Stands, IsLongestRow, IsMunched, IsWordAt, ListsWords, coded_from}
+use Rattle.case_table.specs.Rows.{code_in, HasRow, StandsInRow, IsLongestRow, IsMunched, IsWordAt, ListsWords, coded_from}
 use Rattle.case_table.proofs.RowLemmas.{no_longer_row}
 
 row_at_head : (row : Case) (rows : List Case) (word : List ℕ) (code : ℕ) → row.word.now ≡ word → row.code ≡ code → HasRow (row ∷ rows) word code
@@ -28,37 +28,37 @@ row_behind row rows word code has = record {
 }
 
 found_step : (row : Case) (rows : List Case) (word : List ℕ) (code : ℕ) (same : Bool) → Decides same (row.word.now ≡ word)
-    → (code_of rows word ≡ Some code → HasRow rows word code)
+    → (code_in rows word ≡ Some code → HasRow rows word code)
     → option_map (λ each. each.code) (cond same (Some row) (find (λ each. bytes_eq each.word.now word) rows)) ≡ Some code
     → HasRow (row ∷ rows) word code
-unfolding code_of
+unfolding code_in
 found_step row rows word code true is rest found = row_at_head row rows word code (is.0 refl) (cc found)
 found_step row rows word code false is rest found = row_behind row rows word code (rest found)
 
 -- a code that is found stands in a row with the word
-pub code_of_some : (table : List Case) (word : List ℕ) (code : ℕ) → code_of table word ≡ Some code → HasRow table word code
-unfolding code_of
+pub code_of_some : (table : List Case) (word : List ℕ) (code : ℕ) → code_in table word ≡ Some code → HasRow table word code
+unfolding code_in
 code_of_some [] word code found = absurd (cc found)
 code_of_some (row ∷ rows) word code found =
     found_step row rows word code (bytes_eq row.word.now word) (bytes_eq-Decides row.word.now word) (code_of_some rows word code) found
 
 lost_step : (row : Case) (rows : List Case) (word : List ℕ) (same : Bool) → Decides same (row.word.now ≡ word)
     → option_map (λ each. each.code) (cond same (Some row) (find (λ each. bytes_eq each.word.now word) rows)) ≡ None
-    → (row.word.now ≡ word → ⊥) × (code_of rows word ≡ None)
-unfolding code_of
+    → (row.word.now ≡ word → ⊥) × (code_in rows word ≡ None)
+unfolding code_in
 lost_step row rows word true is none = absurd (cc none)
 lost_step row rows word false is none = (λ same. false≢true (is.1 same), none)
 
-lost_at : (before : List Case) (row : Case) (after : List Case) (word : List ℕ) → code_of (before ++ row ∷ after) word ≡ None → row.word.now ≡ word → ⊥
-unfolding code_of
+lost_at : (before : List Case) (row : Case) (after : List Case) (word : List ℕ) → code_in (before ++ row ∷ after) word ≡ None → row.word.now ≡ word → ⊥
+unfolding code_in
 lost_at [] row after word none = (lost_step row after word (bytes_eq row.word.now word) (bytes_eq-Decides row.word.now word) none).0
 lost_at (first ∷ before) row after word none =
     lost_at before row after word (lost_step first (before ++ row ∷ after) word (bytes_eq first.word.now word) (bytes_eq-Decides first.word.now word) none).1
 
 -- where no code is found, no row has the word
-pub code_of_none : (table : List Case) (word : List ℕ) (code : ℕ) → code_of table word ≡ None → HasRow table word code → ⊥
+pub code_of_none : (table : List Case) (word : List ℕ) (code : ℕ) → code_in table word ≡ None → HasRow table word code → ⊥
 code_of_none table word code none has =
-    let P : List Case → Type 0 = λ rows. code_of rows word ≡ None in
+    let P : List Case → Type 0 = λ rows. code_in rows word ≡ None in
     lost_at has.before has.row has.after word (subst P has.place none) has.word_is
 
 -- the longest row is a row of the table, whose word the text begins with
@@ -83,7 +83,7 @@ of_row : (P : Case → Type 0) (before : List Case) (row : Case) (after : List C
 of_row P [] row after all = all 0 row (omega arith)
 of_row P (first ∷ before) row after all = of_row P before row after (All-tail P first (before ++ row ∷ after) all)
 
-stands_here : (text : List ℕ) (n : ℕ) (row : Case) → 0 < n → n ≤ length text → row.word.now ≡ take n text → Stands text row × (length row.word.now ≡ n)
+stands_here : (text : List ℕ) (n : ℕ) (row : Case) → 0 < n → n ≤ length text → row.word.now ≡ take n text → StandsInRow text row × (length row.word.now ≡ n)
 stands_here text n row some within is =
     let len : length row.word.now ≡ n = ap length is ∙ length-take-le n text within in
     (record { some = omega arith; front = ap (λ m. take m text) len ∙ sym is }, len)
@@ -92,7 +92,7 @@ stands_here text n row some within is =
 pub longest_bounds : (table : List Case) (text : List ℕ) (code len : ℕ) → IsLongestRow table text code len
     → (n other : ℕ) → 0 < n → n ≤ length text → HasRow table (take n text) other → n ≤ len
 longest_bounds table text code len best n other some within has =
-    let P : Case → Type 0 = λ row. Stands text row → length row.word.now ≤ len in
+    let P : Case → Type 0 = λ row. StandsInRow text row → length row.word.now ≤ len in
     let Q : List Case → Type 0 = λ rows. All P rows in
     let here = stands_here text n has.row some within has.word_is in
     let most : length has.row.word.now ≤ len = of_row P has.before has.row has.after (subst Q has.place (no_longer_row table text code len best)) here.0 in
@@ -104,7 +104,7 @@ pub none_stands : (table : List Case) (text : List ℕ) → IsMunched table text
     → (n other : ℕ) → 0 < n → n ≤ length text → HasRow table (take n text) other → ⊥
 unfolding IsMunched
 none_stands table text none n other some within has =
-    let P : Case → Type 0 = λ row. ¬ Stands text row in
+    let P : Case → Type 0 = λ row. ¬ StandsInRow text row in
     let Q : List Case → Type 0 = λ rows. All P rows in
     of_row P has.before has.row has.after (subst Q has.place none) (stands_here text n has.row some within has.word_is).0
 

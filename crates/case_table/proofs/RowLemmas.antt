@@ -5,7 +5,7 @@ use Rattle.std.proofs.lemmas.List.Elements.{All-push, All-nil, All-append, All-c
 use Rattle.std.proofs.lemmas.List.{take_more, take_all, get_or-drop, get_or_default}
 use Rattle.std.proofs.lemmas.Bool.{cases_lt}
 use Rattle.case_table.specs.declared.rows.Case.{Case}
-use Rattle.case_table.specs.Rows.{Stands, IsLongestRow, IsMunched, IsApart}
+use Rattle.case_table.specs.Rows.{StandsInRow, IsLongestRow, IsMunched, IsApart}
 
 -- the length of the best row so far, or 0
 abbrev pub best_len : Option (ℕ × ℕ) → ℕ
@@ -14,9 +14,9 @@ best_len (Some found) = found.1
 
 -- no row that stands is longer than the longest
 pub no_longer_row : (table : List Case) (text : List ℕ) (code len : ℕ) → IsLongestRow table text code len
-    → All (λ other. Stands text other → length other.word.now ≤ len) table
+    → All (λ other. StandsInRow text other → length other.word.now ≤ len) table
 no_longer_row table text code len best =
-    let P : Case → Type 0 = λ other. Stands text other → length other.word.now ≤ len in
+    let P : Case → Type 0 = λ other. StandsInRow text other → length other.word.now ≤ len in
     let first : P best.row = λ stood. let e = best.len_is in omega (arith, e) in
     let front : All P best.before = λ k d h stood. let less = best.shorter k d h stood in omega (arith, less) in
     let Q : List Case → Type 0 = λ rows. All P rows in
@@ -24,11 +24,11 @@ no_longer_row table text code len best =
 
 pub munched_none : (text : List ℕ) → IsMunched [] text None
 unfolding IsMunched
-munched_none text = All-nil (λ row. ¬ Stands text row)
+munched_none text = All-nil (λ row. ¬ StandsInRow text row)
 
 -- a longer row that stands is the longest then
 pub munched_longer : (table : List Case) (text : List ℕ) (best : Option (ℕ × ℕ)) (row : Case)
-    → IsMunched table text best → best_len best < length row.word.now → Stands text row
+    → IsMunched table text best → best_len best < length row.word.now → StandsInRow text row
     → IsMunched (table ++ row ∷ []) text (Some (row.code, length row.word.now))
 unfolding IsMunched
 munched_longer table text None row none longer stands = record {
@@ -40,7 +40,7 @@ munched_longer table text None row none longer stands = record {
   code_is = refl;
   len_is = refl;
   shorter = λ k d h stood. absurd (none k d h stood);
-  no_longer = All-nil (λ other. Stands text other → length other.word.now ≤ length row.word.now);
+  no_longer = All-nil (λ other. StandsInRow text other → length other.word.now ≤ length row.word.now);
 }
 munched_longer table text (Some found) row best longer stands = record {
   before = table;
@@ -51,16 +51,16 @@ munched_longer table text (Some found) row best longer stands = record {
   code_is = refl;
   len_is = refl;
   shorter = λ k d h stood. let least = no_longer_row table text found.0 found.1 best k d h stood in omega (arith, least, longer);
-  no_longer = All-nil (λ other. Stands text other → length other.word.now ≤ length row.word.now);
+  no_longer = All-nil (λ other. StandsInRow text other → length other.word.now ≤ length row.word.now);
 }
 
 -- a row that doesn't stand or isn't longer changes nothing
 pub munched_kept : (table : List Case) (text : List ℕ) (best : Option (ℕ × ℕ)) (row : Case)
-    → IsMunched table text best → (Stands text row → length row.word.now ≤ best_len best)
+    → IsMunched table text best → (StandsInRow text row → length row.word.now ≤ best_len best)
     → IsMunched (table ++ row ∷ []) text best
 unfolding IsMunched
 munched_kept table text None row none short =
-    All-push (λ other. ¬ Stands text other) table row none (λ stood. let some = stood.some in omega (arith, short stood, some))
+    All-push (λ other. ¬ StandsInRow text other) table row none (λ stood. let some = stood.some in omega (arith, short stood, some))
 munched_kept table text (Some found) row best short = record {
   before = best.before;
   row = best.row;
@@ -70,7 +70,7 @@ munched_kept table text (Some found) row best short = record {
   code_is = best.code_is;
   len_is = best.len_is;
   shorter = best.shorter;
-  no_longer = All-push (λ other. Stands text other → length other.word.now ≤ found.1) best.after row best.no_longer short;
+  no_longer = All-push (λ other. StandsInRow text other → length other.word.now ≤ found.1) best.after row best.no_longer short;
 }
 
 -- the rest of a list from a place on, as a range of the list gives it
@@ -87,7 +87,7 @@ walked_none text = record { munched = munched_none text; len_is = refl }
 
 pub walked_longer : (table : List Case) (text : List ℕ) (best : Option (ℕ × ℕ)) (len i : ℕ) (d : Case)
     → i < length table → IsWalked (take i table) text best len
-    → (len < length (get_or table i d).word.now) × Stands text (get_or table i d)
+    → (len < length (get_or table i d).word.now) × StandsInRow text (get_or table i d)
     → IsWalked (take (i + 1) table) text (Some ((get_or table i d).code, length (get_or table i d).word.now))
     (length (get_or table i d).word.now)
 walked_longer table text best len i d within walked better =
@@ -102,12 +102,12 @@ walked_longer table text best len i d within walked better =
 
 pub walked_kept : (table : List Case) (text : List ℕ) (best : Option (ℕ × ℕ)) (len i : ℕ) (d : Case)
     → i < length table → IsWalked (take i table) text best len
-    → ((len < length (get_or table i d).word.now) × Stands text (get_or table i d) → ⊥)
+    → ((len < length (get_or table i d).word.now) × StandsInRow text (get_or table i d) → ⊥)
     → IsWalked (take (i + 1) table) text best len
 walked_kept table text best len i d within walked worse =
     let Q : List Case → Type 0 = λ rows. IsMunched rows text best in
     let len_is = walked.len_is in
-    let short : Stands text (get_or table i d) → length (get_or table i d).word.now ≤ best_len best = λ stood.
+    let short : StandsInRow text (get_or table i d) → length (get_or table i d).word.now ≤ best_len best = λ stood.
     ⊎_elim (λ less. absurd (worse (less, stood))) (λ most. omega (arith, most)) (cases_lt len (length (get_or table i d).word.now)) in
     record {
       munched = subst Q (sym (take_more table i d within)) (munched_kept (take i table) text best (get_or table i d) walked.munched short);

@@ -5,8 +5,8 @@ use Rattle.std.specs.Str.{bytes_eq}
 use Rattle.case_table.specs.declared.rows.Case.{Case}
 
 -- the code of the first row with this word, if there is one
-unfoldable pub code_of : List Case → List ℕ → Option ℕ
-code_of table word = option_map (λ row. row.code) (find (λ row. bytes_eq row.word.now word) table)
+unfoldable pub code_in : List Case → List ℕ → Option ℕ
+code_in table word = option_map (λ row. row.code) (find (λ row. bytes_eq row.word.now word) table)
 
 -- the word of the first row with this code, if there is one
 abbrev pub word_with : List Case → ℕ → Option (List ℕ)
@@ -22,7 +22,7 @@ pub record HasRow (table : List Case) (word : List ℕ) (code : ℕ) : Type 0 wh
   pub code_is : row.code ≡ code
 
 -- the word of the row isn't empty, and the text begins with it
-pub record Stands (text : List ℕ) (row : Case) : Type 0 where
+pub record StandsInRow (text : List ℕ) (row : Case) : Type 0 where
   pub some : 0 < length row.word.now
   pub front : take (length row.word.now) text ≡ row.word.now
 
@@ -33,15 +33,15 @@ pub record IsLongestRow (table : List Case) (text : List ℕ) (code len : ℕ) :
   pub row : Case
   pub after : List Case
   pub place : table ≡ before ++ row ∷ after
-  pub stands : Stands text row
+  pub stands : StandsInRow text row
   pub code_is : code ≡ row.code
   pub len_is : len ≡ length row.word.now
-  pub shorter : All (λ other. Stands text other → length other.word.now < len) before
-  pub no_longer : All (λ other. Stands text other → length other.word.now ≤ len) after
+  pub shorter : All (λ other. StandsInRow text other → length other.word.now < len) before
+  pub no_longer : All (λ other. StandsInRow text other → length other.word.now ≤ len) after
 
 -- the code and the length of the first of the longest rows that stand at the head of the text, or None where none does
 unfoldable pub IsMunched : List Case → List ℕ → Option (ℕ × ℕ) → Type 0
-IsMunched table text None = All (λ row. ¬ Stands text row) table
+IsMunched table text None = All (λ row. ¬ StandsInRow text row) table
 IsMunched table text (Some found) = IsLongestRow table text found.0 found.1
 
 -- two rows differ in their words and in their codes

@@ -1,6 +1,6 @@
 ghost use Rattle.std.specs.Prelude.{◌≡◌, ◌<◌, ◌≤◌, ◌↔◌, IsTrue, length, drop, All};
 ghost use Rattle.std.specs.Option.{option_map};
-ghost use Rattle.case_table.specs.Rows.{code_of, word_with, IsApart, IsDistinctTable, IsMunched, Stands};
+ghost use Rattle.case_table.specs.Rows.{code_in, word_with, IsApart, IsDistinctTable, IsMunched, StandsInRow};
 
 /// A row of a table: a word and the code that stands for it.
 #[derive(Clone, Copy)]
@@ -10,9 +10,9 @@ pub struct Case {
 }
 
 /// The code of the first row with this word, or None where no row has it.
-#[tactic(auto, unfolding(crate::specs::Rows::code_of))]
+#[tactic(auto, unfolding(crate::specs::Rows::code_in))]
 pub fn find(table: &[Case], word: &[u8]) -> Option<u16>
-    ensures { result ≡ code_of table.now word.now }
+    ensures { result ≡ code_in table.now word.now }
 {
     table
         .iter()
@@ -62,7 +62,7 @@ pub fn distinct(table: &[Case]) -> bool
 
 /// Whether the row's word has more than `least` bytes and the text begins with it.
 fn is_longer(row: &Case, text: &[u8], least: usize) -> bool
-    ensures { IsTrue result ↔ ((least < length row.now.word.now) × Stands text.now row.now) }
+    ensures { IsTrue result ↔ ((least < length row.now.word.now) × StandsInRow text.now row.now) }
 {
     least < row.word.len() && text.starts_with(row.word.as_bytes())
 }

@@ -1,7 +1,7 @@
 //! An index over a list of hashes, by which things with a key are found in expected constant time and without memory.
 
-ghost use Rattle.std.specs.Prelude.{◌≡◌, ◌<◌, [], ◌∷◌, ◌++◌, length, take, slice_index, OnOk, OnErr};
-ghost use Rattle.elastic_ast.specs.Containers.LastWith.{last_with};
+ghost use Rattle.std.specs.Prelude.{◌≡◌, ◌<◌, ℕ, [], ◌∷◌, ◌++◌, length, take, slice_index, OnOk, OnErr};
+ghost use Rattle.elastic_ast.specs.Containers.LastWith.{IsPassing, last_with};
 
 use std::alloc::{AllocError, Global};
 use std::collections::HashMap;
@@ -71,8 +71,23 @@ impl Chains {
         self.links.len()
     }
 
+    /// A place with this hash that passes a test. Only places with this hash are tested.
+    pub fn find<F: Fn(usize) -> bool>(&self, hash: u64, test: F) -> Option<usize>
+        requires { (place : ℕ) → place < length self.now → F.pre test place }
+        ensures { IsPassing (F.post test) self.now hash result }
+    {
+        let mut next = self.last(hash);
+        'places: while let Some(place) = next {
+            if test(place) {
+                return Some(place);
+            }
+            next = self.before(place);
+        }
+        None
+    }
+
     /// The greatest place with this hash.
-    pub fn last(&self, hash: u64) -> Option<usize>
+    fn last(&self, hash: u64) -> Option<usize>
         ensures { result ≡ last_with hash self.now }
     {
         match self.heads.get(&hash) {
@@ -82,7 +97,7 @@ impl Chains {
     }
 
     /// The greatest place below this one with the same hash.
-    pub fn before(&self, place: usize) -> Option<usize>
+    fn before(&self, place: usize) -> Option<usize>
         requires { place < length self.now }
         ensures { result ≡ last_with (slice_index self.now place) (take place self.now) }
     {

@@ -4,7 +4,7 @@ ghost use Rattle.std.specs.Prelude.{◌≡◌, ◌≢◌, ◌⊎◌, ◌≤◌, 
 ghost use Rattle.elastic_ast.specs.Containers.BitWords.{word};
 ghost use Rattle.elastic_ast.specs.Containers.KeyHash.{hash_of};
 ghost use Rattle.elastic_ast.specs.Containers.RegisterLists.{register_at, cell_at, with_cell_if, is_of_width, same_key, with_register, told_entry, entry_at};
-ghost use Rattle.elx_bits.specs.Words.{Word};
+ghost use Rattle.elx_bits.specs.Words.{BitWord};
 
 use crate::chains::Chains;
 use crate::key_hash::{HASH_START, hash_bytes, hash_number};
@@ -101,15 +101,9 @@ impl Registers {
     pub fn find(&self, name: &Name, index: Option<u32>) -> Option<usize>
         ensures { result ≡ register_at self.now name.now index }
     {
-        let mut next = self.chains.last(key_hash(name, index));
-        'places: while let Some(place) = next {
-            let held = &self.list[place];
-            if held.is(name, index) {
-                return Some(place);
-            }
-            next = self.chains.before(place);
-        }
-        None
+        let list = self.list.as_slice();
+        self.chains
+            .find(key_hash(name, index), |place| list[place].is(name, index))
     }
 
     /// The name, the index, the width and the number of cells of the register at a place, which is the only one with this

@@ -38,14 +38,7 @@ pub fn find(
     requires { chains.now ≡ hashes_of slots.now }
     ensures { IsSlotAt (places (entries slots.now)) (place (seen_ref spot.now) index) result }
 {
-    let mut next = chains.last(spot.hash(index));
-    'places: while let Some(k) = next {
-        if slots[k].is_at(spot, index) {
-            return Some(k);
-        }
-        next = chains.before(k);
-    }
-    None
+    chains.find(spot.hash(index), |k| slots[k].is_at(spot, index))
 }
 
 /// Gives a slot another value.

@@ -1,4 +1,5 @@
 //! What the units of small programs are, as equations that are computed when the crate is checked.
+#![tactic(auto, unfolding(elastic_ast::specs::OperatorSorts::operators_in))]
 
 ghost use Rattle.elastic_laws.specs.Examples.UnitExamples.{UnitsOfConditions, UnitsOfLoopsAndBlocks, UnitsOfASketch, UnitsWithRegisters, UnitsOfTablesAndCalls, OrdersOfTwoUnits, WhatInstancesDo, FlatNamesOfElements};
 ghost use Rattle.std.specs.Prelude.{true, false, None};

@@ -1,10 +1,10 @@
 -- Words of bits and what is computed with them: whole numbers below a power of two (P4-16 language specification 1.2.3,
 -- section 8.6, and the casts between widths of its section on casts). A word of width `w` is a number below 2 to the `w`.
-use Rattle.std.specs.Prelude.{◌≤◌, ◌<◌, ℕ, ◌+◌, ◌-◌, ◌*◌, ◌/◌, ◌%◌, ◌^◌, bit_and, bit_or, bit_xor}
+use Rattle.std.specs.Prelude.{◌≡◌, ◌≤◌, ◌<◌, ℕ, ◌+◌, ◌-◌, ◌*◌, ◌/◌, ◌%◌, ◌^◌}
 
 -- the width and the value
-abbrev pub Word : Type 0
-Word = ℕ × ℕ
+abbrev pub BitWord : Type 0
+BitWord = ℕ × ℕ
 
 -- whole-number results, modulo 2 to the width
 abbrev pub add : ℕ → ℕ → ℕ → ℕ
@@ -45,3 +45,7 @@ pub record IsWord (width value : ℕ) : Type 0 where
   pub positive : 1 ≤ width
   pub within : width ≤ 128
   pub fits : value < 2 ^ width
+
+-- the amount of a shift, below the width
+abbrev pub IsAmount : ℕ → ℕ → ℕ → Type 0
+IsAmount width by amount = (amount ≡ by) × (amount < width)

@@ -1,8 +1,8 @@
 //! Values of a width in bits.
 
-ghost use Rattle.std.specs.Prelude.{◌≡◌, ℕ, ◌≤◌, ◌<◌, ◌^◌, ◌+◌, ◌%◌, ◌↔◌, IsTrue, MatchOption, bit_and, bit_or, bit_xor};
+ghost use Rattle.std.specs.Prelude.{◌≡◌, ℕ, ◌≤◌, ◌<◌, ◌^◌, ◌+◌, ◌-◌, ◌%◌, ◌↔◌, IsTrue, MatchOption, bit_and, bit_or, bit_xor};
 ghost use Rattle.elx_bits.specs.Hash.{hashed, mixed as mixed_of};
-ghost use Rattle.elx_bits.specs.Words.{add as add_of, sub as sub_of, mul as mul_of, not as not_of, shl as shl_of, shr as shr_of, cat as cat_of, slice as slice_of, cast as cast_of, IsWord};
+ghost use Rattle.elx_bits.specs.Words.{add as add_of, sub as sub_of, mul as mul_of, not as not_of, shl as shl_of, shr as shr_of, cat as cat_of, slice as slice_of, cast as cast_of, IsAmount, IsWord};
 
 /// The most bits of a value.
 const WIDEST: u8 = 128;
@@ -18,9 +18,11 @@ pub struct Bits {
 }
 
 impl Bits {
+    ghost use Rattle.elx_bits.specs.AreBits.{AreBits};
+
     /// The value of this width, or None where the width isn't 1 to 128 or the value isn't below 2 to the width.
     pub fn of(width: u8, value: u128) -> Option<Bits>
-        ensures { MatchOption result (IsWord width value → ⊥) (λ bits. (bits.width ≡ width) × (bits.value ≡ value)) }
+        ensures { MatchOption result (IsWord width value → ⊥) (AreBits width value) }
     {
         if width == 0 || width > WIDEST || value > ones(width) {
             return None;
@@ -31,8 +33,7 @@ impl Bits {
     /// The sum, modulo 2 to the width.
     pub fn add(self, other: Bits) -> Bits
         requires { self.width ≡ other.width }
-        ensures width { result.width ≡ self.width }
-        ensures value { result.value ≡ add_of self.width self.value other.value }
+        ensures { AreBits self.width (add_of self.width self.value other.value) result }
     {
         low_bits(self.width, self.value.wrapping_add(other.value))
     }
@@ -40,8 +41,7 @@ impl Bits {
     /// The difference, modulo 2 to the width.
     pub fn sub(self, other: Bits) -> Bits
         requires { self.width ≡ other.width }
-        ensures width { result.width ≡ self.width }
-        ensures value { result.value ≡ sub_of self.width self.value other.value }
+        ensures { AreBits self.width (sub_of self.width self.value other.value) result }
     {
         low_bits(self.width, self.value.wrapping_sub(other.value))
     }
@@ -49,8 +49,7 @@ impl Bits {
     /// The product, modulo 2 to the width.
     pub fn mul(self, other: Bits) -> Bits
         requires { self.width ≡ other.width }
-        ensures width { result.width ≡ self.width }
-        ensures value { result.value ≡ mul_of self.width self.value other.value }
+        ensures { AreBits self.width (mul_of self.width self.value other.value) result }
     {
         low_bits(self.width, self.value.wrapping_mul(other.value))
     }
@@ -58,8 +57,7 @@ impl Bits {
     /// The bits that both have.
     pub fn and(self, other: Bits) -> Bits
         requires { self.width ≡ other.width }
-        ensures width { result.width ≡ self.width }
-        ensures value { result.value ≡ bit_and self.value other.value }
+        ensures { AreBits self.width (bit_and self.value other.value) result }
     {
         Bits {
             width: self.width,
@@ -70,8 +68,7 @@ impl Bits {
     /// The bits that one of them has.
     pub fn or(self, other: Bits) -> Bits
         requires { self.width ≡ other.width }
-        ensures width { result.width ≡ self.width }
-        ensures value { result.value ≡ bit_or self.value other.value }
+        ensures { AreBits self.width (bit_or self.value other.value) result }
     {
         Bits {
             width: self.width,
@@ -82,8 +79,7 @@ impl Bits {
     /// The bits in which they differ.
     pub fn xor(self, other: Bits) -> Bits
         requires { self.width ≡ other.width }
-        ensures width { result.width ≡ self.width }
-        ensures value { result.value ≡ bit_xor self.value other.value }
+        ensures { AreBits self.width (bit_xor self.value other.value) result }
     {
         Bits {
             width: self.width,
@@ -93,8 +89,7 @@ impl Bits {
 
     /// Each bit turned.
     pub fn not(self) -> Bits
-        ensures width { result.width ≡ self.width }
-        ensures value { result.value ≡ not_of self.width self.value }
+        ensures { AreBits self.width (not_of self.width self.value) result }
     {
         Bits {
             width: self.width,
@@ -104,8 +99,7 @@ impl Bits {
 
     /// The bits moved up by an amount of any width, with zeros below; 0 from an amount of the width on.
     pub fn shl(self, by: Bits) -> Bits
-        ensures width { result.width ≡ self.width }
-        ensures value { result.value ≡ shl_of self.width self.value by.value }
+        ensures { AreBits self.width (shl_of self.width self.value by.value) result }
     {
         match self.amount(by) {
             Some(amount) => low_bits(self.width, self.value << amount),
@@ -115,8 +109,7 @@ impl Bits {
 
     /// The bits moved down by an amount of any width, with zeros above; 0 from an amount of the width on.
     pub fn shr(self, by: Bits) -> Bits
-        ensures width { result.width ≡ self.width }
-        ensures value { result.value ≡ shr_of self.value by.value }
+        ensures { AreBits self.width (shr_of self.value by.value) result }
     {
         match self.amount(by) {
             Some(amount) => low_bits(self.width, self.value >> amount),
@@ -126,7 +119,7 @@ impl Bits {
 
     /// The amount of a shift, where it is below the width.
     fn amount(self, by: Bits) -> Option<u32>
-        ensures { MatchOption result (self.width ≤ by.value) (λ amount. (amount ≡ by.value) × (amount < self.width)) }
+        ensures { MatchOption result (self.width ≤ by.value) (IsAmount self.width by.value) }
     {
         if by.value < u128::from(self.width) {
             Some(by.value as u32)
@@ -138,8 +131,7 @@ impl Bits {
     /// The bits of this value and, below them, those of another. The widths add up to at most 128.
     pub fn cat(self, low: Bits) -> Bits
         requires { self.width + low.width ≤ 128 }
-        ensures width { result.width ≡ self.width + low.width }
-        ensures value { result.value ≡ cat_of low.width self.value low.value }
+        ensures { AreBits (self.width + low.width) (cat_of low.width self.value low.value) result }
     {
         Bits {
             width: self.width + low.width,
@@ -151,8 +143,7 @@ impl Bits {
     pub fn slice(self, high: u8, low: u8) -> Bits
         requires order { low ≤ high }
         requires within { high < self.width }
-        ensures width { result.width + low ≡ high + 1 }
-        ensures value { result.value ≡ slice_of high low self.value }
+        ensures { AreBits (high + 1 - low) (slice_of high low self.value) result }
     {
         low_bits(high - low + 1, self.value >> low)
     }
@@ -161,8 +152,7 @@ impl Bits {
     pub fn cast(self, width: u8) -> Bits
         requires positive { 1 ≤ width }
         requires within { width ≤ 128 }
-        ensures width { result.width ≡ width }
-        ensures value { result.value ≡ cast_of width self.value }
+        ensures { AreBits width (cast_of width self.value) result }
     {
         low_bits(width, self.value)
     }

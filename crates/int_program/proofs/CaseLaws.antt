@@ -19,11 +19,7 @@ leads_from_cases ip known b (split v k s t) bs rest a l =
     (a.0, subst (λ ns. Leads ip (IsAccepted ip known) (low ∷ high ∷ bs) ns []) (sym (append_assoc (preorder s) (preorder t) rest)) first)
 leads_from_cases ip known b (tight v r s) bs rest a l =
     (a.0, leads_from_cases ip known (tight_child b v (slice_get ip.rows r)) s bs rest a.1 l)
-leads_from_cases ip known b (row_leaf r) bs rest a l = (a, l)
-leads_from_cases ip known b goal_leaf bs rest a l = (a, l)
-leads_from_cases ip known b (dual over ws) bs rest a l = (a, l)
-leads_from_cases ip known b (far ws) bs rest a l = (a, l)
-leads_from_cases ip known b unsolved bs rest a l = (a, l)
+leads_from_cases ip known b other bs rest a l = (a, l)
 
 -- a front of the nodes is a tree that is accepted on the first box
 record HasCases (ip : Ip) (known : Option ℤ) (b : IpBox) (bs : List IpBox) (nodes : List Node) : Type 0 where

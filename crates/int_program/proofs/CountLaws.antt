@@ -168,11 +168,7 @@ cut_uses ip b bs (Split v k) f c = split_uses ip b bs v k f c
 cut_uses ip b bs (Tight v r) f c =
     let s = shrinks (slice_get ip.rows r) ip v b f in
     record { fit = (s.fits, tt); less = omega (arith, s.less) }
-cut_uses ip b bs (RowLeaf r) f c = record { fit = tt; less = omega arith }
-cut_uses ip b bs GoalLeaf f c = record { fit = tt; less = omega arith }
-cut_uses ip b bs (Dual over ws) f c = record { fit = tt; less = omega arith }
-cut_uses ip b bs (Far ws) f c = record { fit = tt; less = omega arith }
-cut_uses ip b bs Unsolved f c = record { fit = tt; less = omega arith }
+cut_uses ip b bs other f c = record { fit = tt; less = omega arith }
 
 -- an accepted split cuts
 accepted_cut : (ip : Ip) (b : IpBox) (v : ℕ) (k : ℤ) → Fits ip b → split_fault (length ip.tops) b v k ≡ None → IsCut b v k

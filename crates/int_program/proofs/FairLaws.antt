@@ -17,9 +17,4 @@ not_owed h = cc
 pub fair_before : (above : ℕ) (ip : Ip) (known : Option ℤ) (b : IpBox) (node : Node) → IsFair true above ip known b node → IsFair false above ip known b node
 fair_before above ip known b (Split v k) f =
     record { nonempty = f.nonempty; no_row = f.no_row; var = f.var; lower = f.lower; upper = f.upper; narrow = not_owed }
-fair_before above ip known b (Tight v r) f = f
-fair_before above ip known b (RowLeaf r) f = f
-fair_before above ip known b GoalLeaf f = f
-fair_before above ip known b (Dual over ws) f = f
-fair_before above ip known b (Far ws) f = f
-fair_before above ip known b Unsolved f = f
+fair_before above ip known b other f = f

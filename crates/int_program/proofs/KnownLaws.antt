@@ -40,22 +40,14 @@ dual_more ip b over ws u v h e =
     none_from_test (rows_there ip ws) _ why.BadVar there.0 (none_from_test (int_le (pos 1) over && none_negative ws) (dual_short v over o) why.DualShort signs.0 short)
 
 accepted_more : (ip : Ip) (u v : ℤ) → u ≤ℤ v → (b : IpBox) (node : Node) → IsAccepted ip (Some u) b node → IsAccepted ip (Some v) b node
-accepted_more ip u v h b (Split w k) e = e
-accepted_more ip u v h b (Tight w r) e = e
-accepted_more ip u v h b (RowLeaf r) e = e
 accepted_more ip u v h b GoalLeaf e = goal_more ip b u v h e
 accepted_more ip u v h b (Dual over ws) e = dual_more ip b over ws u v h e
-accepted_more ip u v h b (Far ws) e = e
-accepted_more ip u v h b Unsolved e = e
+accepted_more ip u v h b other e = e
 
 accepted_none : (ip : Ip) (u : ℤ) (b : IpBox) (node : Node) → IsAccepted ip None b node → IsAccepted ip (Some u) b node
-accepted_none ip u b (Split w k) e = e
-accepted_none ip u b (Tight w r) e = e
-accepted_none ip u b (RowLeaf r) e = e
 accepted_none ip u b GoalLeaf e = cc
 accepted_none ip u b (Dual over ws) e = absurd (dual_never (rows_there ip ws) e)
-accepted_none ip u b (Far ws) e = e
-accepted_none ip u b Unsolved e = e
+accepted_none ip u b other e = e
 
 pub leads_weaker : (ip : Ip) (G H : IpBox → Node → Type 0) → ((b : IpBox) (node : Node) → G b node → H b node) → (bs : List IpBox) (nodes : List Node) (rest : List IpBox) → Leads ip G bs nodes rest → Leads ip H bs nodes rest
 leads_weaker ip G H f bs [] rest h = h

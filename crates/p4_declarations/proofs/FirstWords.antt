@@ -87,11 +87,8 @@ by_its_text First.by_control = refl
 by_its_text First.by_main = refl
 
 pub is_include : Kind → Bool
-is_include (kind.Reserved code) = false
-is_include (kind.Sign code) = false
-is_include kind.Name = false
-is_include (kind.Number width value) = false
 is_include (kind.Include file) = true
+is_include other = false
 
 -- a reserved word or a name with this text
 pub IsText : List ℕ → Word → Type 0
@@ -99,11 +96,8 @@ IsText text word = (is_include word.kind ≡ false) × (word.piece ≡ text)
 
 reserved_other : (k : Kind) → IsTrue (is_reserved k) → is_include k ≡ false
 unfolding is_include
-reserved_other (kind.Reserved code) h = refl
-reserved_other (kind.Sign code) h = refl
-reserved_other kind.Name h = refl
-reserved_other (kind.Number width value) h = refl
 reserved_other (kind.Include file) h = sym h
+reserved_other other h = refl
 
 pub record StartsWith (text : List ℕ) (a : List Word) : Type 0 where
   pub at : Begins (IsText text) a
@@ -132,18 +126,9 @@ own_text more (PlainDecl.Include file) text {a = a} m s =
     let e = b.1 in
     let f = b.2.0 in
     absurd (let g : true ≡ false = sym (ap is_include e) ∙ f in cc)
-own_text more (PlainDecl.Symbol symbol) text m s = one_text (codes "symbolic") (λ word h. h.1) (begins_first m) s
-own_text more (PlainDecl.Assume comps) text m s = one_text (codes "assume") (λ word h. h.1) (begins_first m) s
-own_text more (PlainDecl.Maximize terms) text m s = one_text (codes "maximize") (λ word h. h.1) (begins_first m) s
-own_text more (PlainDecl.Const name width value) text m s = one_text (codes "const") (λ word h. h.1) (begins_first m) s
-own_text more (PlainDecl.Header name fields) text m s = one_text (codes "header") (λ word h. h.1) (begins_first m) s
-own_text more (PlainDecl.Headers members) text m s = one_text (codes "struct") (λ word h. h.1) (begins_first m) s
-own_text more (PlainDecl.Meta fields) text m s = one_text (codes "struct") (λ word h. h.1) (begins_first m) s
-own_text more (PlainDecl.Register name width cells size) text m s = one_text (codes "Register") (λ word h. h.1) (begins_first m) s
 own_text more (PlainDecl.Parser name states) text m s = absurd m.spelled
 own_text more (PlainDecl.Control name locals body) text m s = absurd m.spelled
-own_text more (PlainDecl.Deparser name emits) text m s = one_text (codes "control") (λ word h. h.1) (begins_first m) s
-own_text more (PlainDecl.Main parser control deparser) text m s = one_text (codes "Pisa") (λ word h. h.1) (begins_first m) s
+own_text more other text m s = one_text (text_of (first_of other)) (λ word h. h.1) (begins_first m) s
 
 -- the parts of a declaration that begins so, and the declaration that is made of them
 abbrev pub PartsOf : First → Type 0

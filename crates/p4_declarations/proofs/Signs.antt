@@ -1,10 +1,12 @@
 -- The signs of terms and the relations: each is spelled by one sign, which no other is spelled by.
-use Rattle.std.proofs.Common.{◌≡◌, ℕ, Bool, true, false, List, Option, Some, codes, bytes_eq, refl, sym, ap, ◌∙◌, cond}
+use Rattle.std.proofs.Common.{◌≡◌, ℕ, Bool, true, false, List, Option, Some, Ok, codes, bytes_eq, refl, subst, sym, ap, ◌∙◌, cond}
 use Rattle.elastic_ast.specs.declared.declarations.Rel.{Rel}
 use Rattle.elastic_ast.specs.declared.declarations.Rel.TheVariants as rel
 use Rattle.spelling.specs.Words.{Word}
 use Rattle.spelling.specs.Grammar.{Grammar, ◌⨟◌, Begins, IsSign, Sign}
-use Rattle.spelling.specs.Reading.{MayTake, Takes, Ends}
+use Rattle.spelling.specs.Reading.{ahead, MayTake, Takes, Ends}
+use Rattle.spelling.specs.Readers.{Reads, itself}
+use Rattle.spelling.specs.declared.reader.Reader.{Reader}
 use Rattle.spelling.proofs.Only.{begins, begins_first, ends_sign, one_end, other_sign, same_end, same_text}
 use Rattle.spelling.proofs.Taking.{may}
 use Rattle.p4_declarations.specs.GoesOn.{product_signs, sum_signs}
@@ -64,6 +66,11 @@ same_relation read r m t =
     let same : text_of read ≡ text_of r = same_text (relation_text read (may t)) (relation_text r m) in
     let some : Some read ≡ Some r = sym (by_its_text read) ∙ ap by_text same ∙ by_its_text r in
     (cc, one_end (relation_text r m) (relation_text read (may t)))
+
+-- the relation that stands first is read, by a reader that is where it was
+pub reads_relation : (read : Rel) {before now after : Reader} → now ≡ before → Takes (SpellsRelation read) (ahead now) (ahead after) → Reads SpellsRelation itself before after (Ok read)
+reads_relation read {after = end} same t =
+    subst (λ at. Reads SpellsRelation itself at end (Ok read)) same record { taken = t; only = λ r rest m. same_relation read r m t; shallow = tt }
 
 pub no_relation : (r : Rel) {a c : List Word} → MayTake (SpellsRelation r) a c → (Begins (IsSign (codes "<=")) a → ⊥) → (Begins (IsSign (codes "<")) a → ⊥) → (Begins (IsSign (codes ">=")) a → ⊥) → (Begins (IsSign (codes ">")) a → ⊥) → (Begins (IsSign (codes "==")) a → ⊥) → ⊥
 no_relation rel.Le m le lt ge gt eq = le (begins m)

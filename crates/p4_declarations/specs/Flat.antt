@@ -1,6 +1,6 @@
 -- Which words spell each declaration that has no expression in it, in the manner of the grammar of the P4-16 language
 -- specification 1.2.3; symbols, assumptions, the utility, registers and arrays of a symbol's size are this project's own.
-use Rattle.std.specs.Prelude.{◌≡◌, ℕ, ◌<◌, ◌^◌, false, List, None, Some, codes}
+use Rattle.std.specs.Prelude.{◌≡◌, ℕ, ◌<◌, ◌^◌, Bool, false, List, None, Some, codes}
 use Rattle.p4_lexer.specs.declared.token.Kind.TheVariants as kind
 use Rattle.elastic_ast.specs.declared.declarations.Field.{Field}
 use Rattle.elastic_ast.specs.declared.declarations.UtilTerm.{UtilTerm}
@@ -8,7 +8,7 @@ use Rattle.elastic_ast.specs.declared.declarations.UtilTerm.TheVariants as util
 use Rattle.elastic_ast.specs.Tree.{Name, PlainDecl}
 use Rattle.spelling.specs.Grammar.{Grammar, Nothing, One, ◌⨟◌, Either, Where, Each, FirstThenEach, Separated, Sign, Reserved, Named, Num, Bracketed}
 use Rattle.p4_expr.specs.Parts.{SpellsNumber, SpellsBits, SpellsAmount, SpellsIndex, SpellsHeader, SpellsNoArguments}
-use Rattle.p4_declarations.specs.Sums.{SpellsFirstTerm, SpellsLaterTerm, SpellsSign, SpellsComparisons}
+use Rattle.p4_declarations.specs.Sums.{SpellsLaterTerm, SpellsTerm, SpellsSign, SpellsComparisons}
 
 -- INCLUDE
 abbrev pub SpellsInclude : ℕ → Grammar
@@ -26,10 +26,14 @@ SpellsStep step = Where ((step.0 < 2 ^ 64) × (step.1 < 2 ^ 64)) (Num step.0 ⨟
 abbrev pub SpellsSteps : ℕ → Name → List (ℕ × ℕ) → Grammar
 SpellsSteps depth symbol steps = Reserved (codes "table") ⨟ Bracketed (codes "(") (codes ")") depth (λ _. Named symbol) ⨟ Bracketed (codes "{") (codes "}") depth (λ _. Separated (Sign (codes ",")) SpellsStep steps)
 
--- util := lterm | 'table' '(' N ')' '{' K ':' K (',' K ':' K)* '}'; the first term of a sum has no sign
+-- util := lterm | 'table' '(' N ')' '{' K ':' K (',' K ':' K)* '}', behind its sign
+abbrev pub SpellsGainBehind : Bool → ℕ → UtilTerm → Grammar
+SpellsGainBehind minus depth (util.Lin term) = SpellsTerm minus term
+SpellsGainBehind minus depth (util.Steps own symbol steps) = Where (own ≡ minus) (SpellsSteps depth symbol steps)
+
+-- the first term of a sum has no sign
 abbrev pub SpellsFirstGain : ℕ → UtilTerm → Grammar
-SpellsFirstGain depth (util.Lin term) = SpellsFirstTerm term
-SpellsFirstGain depth (util.Steps minus symbol steps) = Where (minus ≡ false) (SpellsSteps depth symbol steps)
+SpellsFirstGain = SpellsGainBehind false
 
 -- ('+' | '-') util
 abbrev pub SpellsLaterGain : ℕ → UtilTerm → Grammar
@@ -48,8 +52,8 @@ SpellsConstant width value = Either (SpellsNumber None value) (SpellsNumber (Som
 abbrev pub SpellsHeaderField : Field → Grammar
 SpellsHeaderField field = Where (field.size ≡ None) (SpellsBits field.width ⨟ Named field.name ⨟ Sign (codes ";"))
 
-abbrev pub SpellsHeaderFields : ℕ → List Field → Grammar
-SpellsHeaderFields depth = Each SpellsHeaderField
+abbrev pub SpellsHeaderFields : List Field → Grammar
+SpellsHeaderFields = Each SpellsHeaderField
 
 -- a field of the metadata, perhaps with the symbol that is its size: bits ['[' N ']'] N ';'
 abbrev pub SpellsMetaField : ℕ → Field → Grammar
@@ -62,8 +66,8 @@ SpellsMetaFields depth = Each (SpellsMetaField depth)
 abbrev pub SpellsMember : Name × Name → Grammar
 SpellsMember member = Named member.0 ⨟ Named member.1 ⨟ Sign (codes ";")
 
-abbrev pub SpellsMembers : ℕ → List (Name × Name) → Grammar
-SpellsMembers depth = Each SpellsMember
+abbrev pub SpellsMembers : List (Name × Name) → Grammar
+SpellsMembers = Each SpellsMember
 
 -- N ';'
 abbrev pub SpellsEndedName : Name → Grammar

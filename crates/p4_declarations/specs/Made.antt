@@ -18,16 +18,16 @@ use Rattle.p4_declarations.specs.declared.package.Parts.{Parts}
 use Rattle.p4_declarations.specs.Flat.{SpellsDeparserParameters, SpellsEmit, SpellsFlat, SpellsPacketParameters, SpellsPart, SpellsStep, SpellsSteps}
 
 -- 'apply' '{' EMITS '}'
-abbrev pub SpellsApply : ℕ → List Name → Grammar
-SpellsApply depth emits = Named (codes "apply") ⨟ InCurly (Many SpellsEmit) depth emits
+abbrev pub SpellsEmitBlock : ℕ → List Name → Grammar
+SpellsEmitBlock depth emits = Named (codes "apply") ⨟ InCurly (Many SpellsEmit) depth emits
 
 -- PARSER ',' CONTROL ',' DEPARSER
 abbrev pub SpellsThreeParts : ℕ → Parts → Grammar
 SpellsThreeParts depth parts = SpellsPart depth parts.parser ⨟ Sign (codes ",") ⨟ SpellsPart depth parts.control ⨟ Sign (codes ",") ⨟ SpellsPart depth parts.deparser
 
 -- the symbol and the steps of a table
-abbrev pub SpellsTable : ℕ → Name × List (ℕ × ℕ) → Grammar
-SpellsTable depth table = SpellsSteps depth table.0 table.1
+abbrev pub SpellsStepTable : ℕ → Name × List (ℕ × ℕ) → Grammar
+SpellsStepTable depth table = SpellsSteps depth table.0 table.1
 
 -- K ':' K (',' K ':' K)*
 abbrev pub SpellsStepList : List (ℕ × ℕ) → Grammar
@@ -48,6 +48,10 @@ SpellsParameterList = InRound (λ _ _. SpellsDeparserParameters)
 -- a reader of what a packet is called in parameters
 abbrev pub ReadsParameters : List ℕ → List ℕ → Reader → Reader → Result (Unit {0}) SyntaxError → Type 0
 ReadsParameters packet direction before after result = Reads (λ _. SpellsPacketParameters packet direction) itself before after result
+
+-- the words of one form of declaration
+abbrev pub FlatOf : {I : Type 0} → (I → PlainDecl) → ℕ → I → Grammar
+FlatOf made depth of = SpellsFlat depth (made of)
 
 -- a reader of one form of declaration
 abbrev pub ReadsFlat : {I : Type 0} → (I → PlainDecl) → ℕ → Reader → Reader → Result Decl SyntaxError → Type 0

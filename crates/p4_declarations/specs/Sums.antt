@@ -1,6 +1,6 @@
 -- Which words spell sums of numbers times symbols, comparisons of sums and several comparisons, this project's own. A number
 -- that doesn't fit its place in the tree spells nothing.
-use Rattle.std.specs.Prelude.{◌≡◌, ℕ, ◌<◌, ◌^◌, Bool, true, false, List, Option, None, Some, IfSome, codes, ◌⊎◌}
+use Rattle.std.specs.Prelude.{◌≡◌, ℕ, ◌<◌, ◌^◌, Bool, true, false, List, Option, None, Some, IfSome, codes}
 use Rattle.elastic_ast.specs.declared.declarations.LinTerm.{LinTerm}
 use Rattle.elastic_ast.specs.declared.declarations.Rel.{Rel}
 use Rattle.elastic_ast.specs.declared.declarations.Rel.TheVariants as rel
@@ -8,7 +8,7 @@ use Rattle.elastic_ast.specs.declared.declarations.Comp.{Comp}
 use Rattle.spelling.specs.Words.{Word}
 use Rattle.spelling.specs.Reading.{ahead, MayTake, Takes}
 use Rattle.spelling.specs.declared.reader.Reader.{Reader}
-use Rattle.spelling.specs.Grammar.{Begins, Grammar, IsSign, ◌⨟◌, Either, Where, FirstThenEach, Separated, Sign, Named, Num}
+use Rattle.spelling.specs.Grammar.{Grammar, ◌⨟◌, Either, Where, FirstThenEach, Separated, Sign, Named, Num}
 
 -- lterm := K | N | K '*' N, a name standing for 1 times it
 abbrev pub SpellsProduct : ℕ → Option (List ℕ) → Grammar
@@ -19,9 +19,6 @@ SpellsProduct by (Some symbol) = Either (Where (by ≡ 1) (Named symbol)) (Where
 abbrev pub SpellsSign : Bool → Grammar
 SpellsSign true = Sign (codes "-")
 SpellsSign false = Sign (codes "+")
-
-abbrev pub BeginsSign : Grammar
-BeginsSign ws = Begins (IsSign (codes "+")) ws ⊎ Begins (IsSign (codes "-")) ws
 
 -- what the reader of a sign answers: the sign that stands first, and none where none does
 abbrev pub TakesSign : Reader → Reader → Option Bool → Type 0

@@ -1,7 +1,6 @@
 //! The fields of headers and of the metadata, and the headers of a packet.
 
-ghost use Rattle.std.specs.Prelude.{ℕ};
-ghost use Rattle.spelling.specs.Readers.{itself, Reads, ReadsWithin, ReadsInBlock};
+ghost use Rattle.spelling.specs.Readers.{ClosesNext, Reads, ReadsInBlock, ReadsWithin, ReadsWordsUpTo, itself};
 ghost use Rattle.p4_declarations.specs.Flat.{SpellsEndedName, SpellsHeaderField};
 ghost use Rattle.p4_declarations.specs.Flat.{SpellsHeaderFields, SpellsMember, SpellsMembers};
 ghost use Rattle.p4_declarations.specs.Flat.{SpellsMetaField, SpellsMetaFields};
@@ -9,27 +8,18 @@ ghost use Rattle.p4_declarations.specs.Flat.{SpellsMetaField, SpellsMetaFields};
 use elastic_ast::Field;
 use elx_bits::{Items, Name};
 use p4_expr::{bits, index};
-use spelling::{Reader, SyntaxError, until};
+use spelling::{Parsed, Reader, until_closed};
 use std::alloc::Global;
 
 /// Reads the fields of the metadata, and stops at the closing bracket.
-pub fn meta_fields(
-    alloc: Global,
-    reader: &mut Reader<'_>,
-    depth: u32,
-) -> Result<Items<Field>, SyntaxError>
+pub fn meta_fields(alloc: Global, reader: &mut Reader<'_>, depth: u32) -> Parsed<Items<Field>>
     ensures { ReadsInBlock SpellsMetaFields depth reader.old reader.new result }
 {
-    until(
-        alloc,
-        reader,
-        b"}",
-        |reader| meta_field(alloc, reader, depth),
-    )
+    until_closed(alloc, reader, |reader| meta_field(alloc, reader, depth))
 }
 
 /// `bit<WIDTH> NAME;` or `bit<WIDTH>[SIZE] NAME;`
-fn meta_field(alloc: Global, reader: &mut Reader<'_>, depth: u32) -> Result<Field, SyntaxError>
+fn meta_field(alloc: Global, reader: &mut Reader<'_>, depth: u32) -> Parsed<Field>
     ensures { ReadsWithin SpellsMetaField itself depth reader.old reader.new result }
 {
     let width = bits(reader)?;
@@ -39,14 +29,14 @@ fn meta_field(alloc: Global, reader: &mut Reader<'_>, depth: u32) -> Result<Fiel
 }
 
 /// Reads the fields of a header, and stops at the closing bracket.
-pub fn header_fields(alloc: Global, reader: &mut Reader<'_>) -> Result<Items<Field>, SyntaxError>
-    ensures { (depth : ℕ) → ReadsInBlock SpellsHeaderFields depth reader.old reader.new result }
+pub fn header_fields(alloc: Global, reader: &mut Reader<'_>) -> Parsed<Items<Field>>
+    ensures { ReadsWordsUpTo ClosesNext SpellsHeaderFields itself reader.old reader.new result }
 {
-    until(alloc, reader, b"}", |reader| header_field(alloc, reader))
+    until_closed(alloc, reader, |reader| header_field(alloc, reader))
 }
 
 /// `bit<WIDTH> NAME;`
-fn header_field(alloc: Global, reader: &mut Reader<'_>) -> Result<Field, SyntaxError>
+fn header_field(alloc: Global, reader: &mut Reader<'_>) -> Parsed<Field>
     ensures { Reads SpellsHeaderField itself reader.old reader.new result }
 {
     let width = bits(reader)?;
@@ -59,14 +49,14 @@ fn header_field(alloc: Global, reader: &mut Reader<'_>) -> Result<Field, SyntaxE
 }
 
 /// Reads the headers of a packet, and stops at the closing bracket.
-pub fn members(alloc: Global, reader: &mut Reader<'_>) -> Result<Items<(Name, Name)>, SyntaxError>
-    ensures { (depth : ℕ) → ReadsInBlock SpellsMembers depth reader.old reader.new result }
+pub fn members(alloc: Global, reader: &mut Reader<'_>) -> Parsed<Items<(Name, Name)>>
+    ensures { ReadsWordsUpTo ClosesNext SpellsMembers itself reader.old reader.new result }
 {
-    until(alloc, reader, b"}", |reader| member(alloc, reader))
+    until_closed(alloc, reader, |reader| member(alloc, reader))
 }
 
 /// `HEADER NAME;`
-fn member(alloc: Global, reader: &mut Reader<'_>) -> Result<(Name, Name), SyntaxError>
+fn member(alloc: Global, reader: &mut Reader<'_>) -> Parsed<(Name, Name)>
     ensures { Reads SpellsMember itself reader.old reader.new result }
 {
     let header = reader.name(alloc)?;
@@ -75,7 +65,7 @@ fn member(alloc: Global, reader: &mut Reader<'_>) -> Result<(Name, Name), Syntax
 }
 
 /// `NAME;`
-pub fn ended_name(alloc: Global, reader: &mut Reader<'_>) -> Result<Name, SyntaxError>
+pub fn ended_name(alloc: Global, reader: &mut Reader<'_>) -> Parsed<Name>
     ensures { Reads SpellsEndedName itself reader.old reader.new result }
 {
     let name = reader.name(alloc)?;

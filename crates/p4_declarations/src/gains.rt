@@ -1,71 +1,36 @@
 //! The terms of the utility: sums of numbers times symbols, and tables of steps over a symbol.
 
-ghost use Rattle.std.specs.Prelude.{◌↔◌, IsTrue};
 ghost use Rattle.spelling.specs.Grammar.{Named};
-ghost use Rattle.spelling.specs.Reading.{ahead};
-ghost use Rattle.spelling.specs.Readers.{ClosesNext, InRound, itself, Reads, ReadsBefore};
-ghost use Rattle.spelling.specs.Readers.{ReadsWithin, ReadsWithinBefore};
-ghost use Rattle.p4_declarations.specs.Flat.{SpellsGains, SpellsFirstGain, SpellsLaterGain};
-ghost use Rattle.p4_declarations.specs.Flat.{SpellsStep, SpellsStepNumber};
-ghost use Rattle.p4_declarations.specs.Made.{SpellsTable, SpellsStepList, SpellsStepBlock};
-ghost use Rattle.p4_declarations.specs.Made.{ReadsGain};
+ghost use Rattle.spelling.specs.Readers.{ClosesNext, InRound, Reads, ReadsBefore};
+ghost use Rattle.spelling.specs.Readers.{ReadsWithin, ReadsWithinBefore, itself};
+ghost use Rattle.p4_declarations.specs.Flat.{SpellsGainBehind, SpellsGains, SpellsStep, SpellsStepNumber};
+ghost use Rattle.p4_declarations.specs.Made.{ReadsGain, SpellsStepBlock, SpellsStepList, SpellsStepTable};
 ghost use Rattle.p4_declarations.specs.GoesOn.{EndsSum};
-ghost use Rattle.p4_declarations.specs.Sums.{BeginsSign};
 
 use crate::sums::{sign, term};
 use elastic_ast::UtilTerm;
 use elx_bits::{Items, Name};
-use spelling::{Reader, SyntaxError, in_brackets, keep, separated};
+use spelling::{Brackets, Parsed, Reader, keep, separated};
 use std::alloc::Global;
 
 /// Reads the terms of the utility, each but the first with its sign.
-pub fn gains(
-    alloc: Global,
-    reader: &mut Reader<'_>,
-    depth: u32,
-) -> Result<Items<UtilTerm>, SyntaxError>
+pub fn gains(alloc: Global, reader: &mut Reader<'_>, depth: u32) -> Parsed<Items<UtilTerm>>
     ensures { ReadsWithinBefore EndsSum SpellsGains itself depth reader.old reader.new result }
 {
     let mut gains = Items::new(alloc);
-    let first = first_gain(alloc, reader, depth)?;
+    let first = gain(alloc, reader, depth, false)?;
     keep(&mut gains, first)?;
-    'gains: while goes_on(reader) {
-        let gain = later_gain(alloc, reader, depth)?;
+    'gains: while let Some(minus) = sign(reader) {
+        let gain = gain(alloc, reader, depth, minus)?;
         keep(&mut gains, gain)?;
     }
     Ok(gains)
 }
 
-/// Whether a sign follows, and with it one more term.
-fn goes_on(reader: &Reader<'_>) -> bool
-    ensures { IsTrue result ↔ BeginsSign (ahead reader.now) }
+/// Reads what follows the sign of a term.
+fn gain(alloc: Global, reader: &mut Reader<'_>, depth: u32, minus: bool) -> Parsed<UtilTerm>
+    ensures { ReadsGain (SpellsGainBehind minus) depth reader.old reader.new result }
 {
-    reader.is_at_sign(b"+") || reader.is_at_sign(b"-")
-}
-
-/// Reads the first term, which has no sign.
-fn first_gain(alloc: Global, reader: &mut Reader<'_>, depth: u32) -> Result<UtilTerm, SyntaxError>
-    ensures { ReadsGain SpellsFirstGain depth reader.old reader.new result }
-{
-    if reader.is_at_reserved(b"table") {
-        let (symbol, pairs) = steps(alloc, reader, depth)?;
-        return Ok(UtilTerm::Steps {
-            minus: false,
-            symbol,
-            pairs,
-        });
-    }
-    let term = term(alloc, reader, false)?;
-    Ok(UtilTerm::Lin(term))
-}
-
-/// Reads a term with its sign.
-fn later_gain(alloc: Global, reader: &mut Reader<'_>, depth: u32) -> Result<UtilTerm, SyntaxError>
-    ensures { ReadsGain SpellsLaterGain depth reader.old reader.new result }
-{
-    let Some(minus) = sign(reader) else {
-        return Err(reader.refusal());
-    };
     if reader.is_at_reserved(b"table") {
         let (symbol, pairs) = steps(alloc, reader, depth)?;
         return Ok(UtilTerm::Steps {
@@ -79,12 +44,8 @@ fn later_gain(alloc: Global, reader: &mut Reader<'_>, depth: u32) -> Result<Util
 }
 
 /// `table (SYMBOL) { STEPS }`
-fn steps(
-    alloc: Global,
-    reader: &mut Reader<'_>,
-    depth: u32,
-) -> Result<(Name, Items<(u64, u64)>), SyntaxError>
-    ensures { ReadsWithin SpellsTable itself depth reader.old reader.new result }
+fn steps(alloc: Global, reader: &mut Reader<'_>, depth: u32) -> Parsed<(Name, Items<(u64, u64)>)>
+    ensures { ReadsWithin SpellsStepTable itself depth reader.old reader.new result }
 {
     reader.reserved(b"table")?;
     let symbol = steps_symbol(alloc, reader, depth)?;
@@ -93,32 +54,28 @@ fn steps(
 }
 
 /// `(SYMBOL)`
-fn steps_symbol(alloc: Global, reader: &mut Reader<'_>, depth: u32) -> Result<Name, SyntaxError>
+fn steps_symbol(alloc: Global, reader: &mut Reader<'_>, depth: u32) -> Parsed<Name>
     ensures { ReadsWithin (InRound (λ _. Named)) itself depth reader.old reader.new result }
 {
-    in_brackets(reader, b"(", b")", depth, |reader, _| reader.name(alloc))
+    Brackets::Round(depth).around(reader, |reader, _| reader.name(alloc))
 }
 
 /// `{ STEPS }`
-fn steps_pairs(
-    alloc: Global,
-    reader: &mut Reader<'_>,
-    depth: u32,
-) -> Result<Items<(u64, u64)>, SyntaxError>
+fn steps_pairs(alloc: Global, reader: &mut Reader<'_>, depth: u32) -> Parsed<Items<(u64, u64)>>
     ensures { ReadsWithin SpellsStepBlock itself depth reader.old reader.new result }
 {
-    in_brackets(reader, b"{", b"}", depth, |reader, _| pairs(alloc, reader))
+    Brackets::Curly(depth).around(reader, |reader, _| pairs(alloc, reader))
 }
 
 /// Reads steps with commas between them.
-fn pairs(alloc: Global, reader: &mut Reader<'_>) -> Result<Items<(u64, u64)>, SyntaxError>
+fn pairs(alloc: Global, reader: &mut Reader<'_>) -> Parsed<Items<(u64, u64)>>
     ensures { ReadsBefore ClosesNext SpellsStepList itself reader.old reader.new result }
 {
     separated(alloc, reader, b",", |reader| pair(reader))
 }
 
 /// `KEY: VALUE`
-fn pair(reader: &mut Reader<'_>) -> Result<(u64, u64), SyntaxError>
+fn pair(reader: &mut Reader<'_>) -> Parsed<(u64, u64)>
     ensures { Reads SpellsStep itself reader.old reader.new result }
 {
     let key = number(reader)?;
@@ -128,7 +85,7 @@ fn pair(reader: &mut Reader<'_>) -> Result<(u64, u64), SyntaxError>
 }
 
 /// Reads a number of 64 bits.
-fn number(reader: &mut Reader<'_>) -> Result<u64, SyntaxError>
+fn number(reader: &mut Reader<'_>) -> Parsed<u64>
     ensures { Reads SpellsStepNumber itself reader.old reader.new result }
 {
     Ok(reader.number(u128::from(u64::MAX))? as u64)

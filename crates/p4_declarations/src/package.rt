@@ -7,7 +7,7 @@ ghost use Rattle.p4_declarations.specs.Made.{SpellsThreeParts, ReadsFlat, a_pack
 use elastic_ast::Decl;
 use elx_bits::Name;
 use p4_expr::no_arguments;
-use spelling::{Reader, SyntaxError, in_brackets};
+use spelling::{Brackets, Parsed, Reader, then_sign};
 use std::alloc::Global;
 
 /// The names of the three parts of a program.
@@ -19,7 +19,7 @@ struct Parts {
 }
 
 /// `Pisa(PARSER(), CONTROL(), DEPARSER()) main;`
-pub fn package(alloc: Global, reader: &mut Reader<'_>, depth: u32) -> Result<Decl, SyntaxError>
+pub fn package(alloc: Global, reader: &mut Reader<'_>, depth: u32) -> Parsed<Decl>
     ensures { ReadsFlat a_package depth reader.old reader.new result }
 {
     reader.fixed_name(b"Pisa")?;
@@ -34,26 +34,18 @@ pub fn package(alloc: Global, reader: &mut Reader<'_>, depth: u32) -> Result<Dec
 }
 
 /// `(PARSER(), CONTROL(), DEPARSER())`
-fn part_list(alloc: Global, reader: &mut Reader<'_>, depth: u32) -> Result<Parts, SyntaxError>
+fn part_list(alloc: Global, reader: &mut Reader<'_>, depth: u32) -> Parsed<Parts>
     ensures { ReadsWithin (InRound SpellsThreeParts) itself depth reader.old reader.new result }
 {
-    in_brackets(
-        reader,
-        b"(",
-        b")",
-        depth,
-        |reader, inner| three_parts(alloc, reader, inner),
-    )
+    Brackets::Round(depth).around(reader, |reader, inner| three_parts(alloc, reader, inner))
 }
 
 /// `PARSER(), CONTROL(), DEPARSER()`
-fn three_parts(alloc: Global, reader: &mut Reader<'_>, depth: u32) -> Result<Parts, SyntaxError>
+fn three_parts(alloc: Global, reader: &mut Reader<'_>, depth: u32) -> Parsed<Parts>
     ensures { ReadsWithin SpellsThreeParts itself depth reader.old reader.new result }
 {
-    let parser = part(alloc, reader, depth)?;
-    reader.sign(b",")?;
-    let control = part(alloc, reader, depth)?;
-    reader.sign(b",")?;
+    let parser = then_sign(reader, b",", |reader| part(alloc, reader, depth))?;
+    let control = then_sign(reader, b",", |reader| part(alloc, reader, depth))?;
     let deparser = part(alloc, reader, depth)?;
     Ok(Parts {
         parser,
@@ -63,7 +55,7 @@ fn three_parts(alloc: Global, reader: &mut Reader<'_>, depth: u32) -> Result<Par
 }
 
 /// `NAME()`
-fn part(alloc: Global, reader: &mut Reader<'_>, depth: u32) -> Result<Name, SyntaxError>
+fn part(alloc: Global, reader: &mut Reader<'_>, depth: u32) -> Parsed<Name>
     ensures { ReadsWithin SpellsPart itself depth reader.old reader.new result }
 {
     let name = reader.name(alloc)?;

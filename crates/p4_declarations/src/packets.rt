@@ -7,15 +7,11 @@ ghost use Rattle.p4_declarations.specs.Made.{ReadsParameters};
 
 use elx_bits::Name;
 use p4_expr::header;
-use spelling::{Reader, SyntaxError, in_brackets, then_sign};
+use spelling::{Brackets, Parsed, Reader, then_sign};
 use std::alloc::Global;
 
 /// `PACKET pkt, DIRECTION headers_t hdr`, with these two words. NotProgram where something else follows.
-pub fn packet_parameters(
-    reader: &mut Reader<'_>,
-    packet: &[u8],
-    direction: &[u8],
-) -> Result<(), SyntaxError>
+pub fn packet_parameters(reader: &mut Reader<'_>, packet: &[u8], direction: &[u8]) -> Parsed<()>
     ensures { ReadsParameters packet.now direction.now reader.old reader.new result }
 {
     reader.fixed_name(packet)?;
@@ -28,12 +24,7 @@ pub fn packet_parameters(
 }
 
 /// `pkt.WORD(hdr.HEADER);`, with this word: the name of the header. `depth` is how many brackets may be open from here on.
-pub fn of_packet(
-    alloc: Global,
-    reader: &mut Reader<'_>,
-    depth: u32,
-    word: &[u8],
-) -> Result<Name, SyntaxError>
+pub fn of_packet(alloc: Global, reader: &mut Reader<'_>, depth: u32, word: &[u8]) -> Parsed<Name>
     ensures { ReadsWithin (SpellsOfPacket word.now) itself depth reader.old reader.new result }
 {
     reader.fixed_name(b"pkt")?;
@@ -47,12 +38,8 @@ pub fn of_packet(
 }
 
 /// `(hdr.HEADER)`
-fn header_in_brackets(
-    alloc: Global,
-    reader: &mut Reader<'_>,
-    depth: u32,
-) -> Result<Name, SyntaxError>
+fn header_in_brackets(alloc: Global, reader: &mut Reader<'_>, depth: u32) -> Parsed<Name>
     ensures { ReadsWithin (InRound (λ _. SpellsHeader)) itself depth reader.old reader.new result }
 {
-    in_brackets(reader, b"(", b")", depth, |reader, _| header(alloc, reader))
+    Brackets::Round(depth).around(reader, |reader, _| header(alloc, reader))
 }

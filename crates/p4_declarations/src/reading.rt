@@ -11,7 +11,7 @@ use crate::stored::{constant, register};
 use crate::structs::{header, structure};
 use crate::symbols::{assume, maximize, symbol};
 use elastic_ast::Decl;
-use spelling::{Reader, SyntaxError};
+use spelling::{Parsed, Reader};
 use std::alloc::Global;
 
 /// Reads one declaration that has no expression in it: any but a parser and a control that is no deparser. `depth` is how
@@ -19,41 +19,34 @@ use std::alloc::Global;
 ///
 /// NotProgram names the token at which the reading stopped: no such declaration goes on with it. TooDeep names a token that
 /// opens more than `depth` brackets. Memory comes only for want of memory.
-pub fn flat(alloc: Global, reader: &mut Reader<'_>, depth: u32) -> Result<Decl, SyntaxError>
+pub fn flat(alloc: Global, reader: &mut Reader<'_>, depth: u32) -> Parsed<Decl>
     ensures { ReadsWithin SpellsFlat seen_decl depth reader.old reader.new result }
 {
     if reader.is_at_reserved(b"symbolic") {
-        return symbol(alloc, reader);
+        symbol(alloc, reader)
+    } else if reader.is_at_name(b"assume") {
+        assume(alloc, reader, depth)
+    } else if reader.is_at_name(b"maximize") {
+        maximize(alloc, reader, depth)
+    } else if reader.is_at_reserved(b"const") {
+        constant(alloc, reader)
+    } else if reader.is_at_reserved(b"header") {
+        header(alloc, reader, depth)
+    } else if reader.is_at_reserved(b"struct") {
+        structure(alloc, reader, depth)
+    } else if reader.is_at_name(b"Register") {
+        register(alloc, reader, depth)
+    } else if reader.is_at_reserved(b"control") {
+        deparser(alloc, reader, depth)
+    } else if reader.is_at_name(b"Pisa") {
+        package(alloc, reader, depth)
+    } else {
+        include(reader)
     }
-    if reader.is_at_name(b"assume") {
-        return assume(alloc, reader, depth);
-    }
-    if reader.is_at_name(b"maximize") {
-        return maximize(alloc, reader, depth);
-    }
-    if reader.is_at_reserved(b"const") {
-        return constant(alloc, reader);
-    }
-    if reader.is_at_reserved(b"header") {
-        return header(alloc, reader, depth);
-    }
-    if reader.is_at_reserved(b"struct") {
-        return structure(alloc, reader, depth);
-    }
-    if reader.is_at_name(b"Register") {
-        return register(alloc, reader, depth);
-    }
-    if reader.is_at_reserved(b"control") {
-        return deparser(alloc, reader, depth);
-    }
-    if reader.is_at_name(b"Pisa") {
-        return package(alloc, reader, depth);
-    }
-    include(reader)
 }
 
 /// An include.
-fn include(reader: &mut Reader<'_>) -> Result<Decl, SyntaxError>
+fn include(reader: &mut Reader<'_>) -> Parsed<Decl>
     ensures { (depth : ℕ) → ReadsFlat PlainDecl.Include depth reader.old reader.new result }
 {
     let file = reader.include()?;

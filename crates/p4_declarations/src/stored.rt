@@ -9,11 +9,11 @@ ghost use Rattle.p4_declarations.specs.Made.{ReadsFlat, a_constant, a_register};
 use crate::fields::ended_name;
 use elastic_ast::{Amount, Decl};
 use p4_expr::{amount, bits, index, number};
-use spelling::{Reader, SyntaxError, in_brackets};
+use spelling::{Brackets, Parsed, Reader};
 use std::alloc::Global;
 
 /// `const bit<WIDTH> NAME = VALUE;`
-pub fn constant(alloc: Global, reader: &mut Reader<'_>) -> Result<Decl, SyntaxError>
+pub fn constant(alloc: Global, reader: &mut Reader<'_>) -> Parsed<Decl>
     ensures { (depth : ℕ) → ReadsFlat a_constant depth reader.old reader.new result }
 {
     reader.reserved(b"const")?;
@@ -26,7 +26,7 @@ pub fn constant(alloc: Global, reader: &mut Reader<'_>) -> Result<Decl, SyntaxEr
 }
 
 /// A number without a width or with this one.
-fn constant_value(reader: &mut Reader<'_>, width: u8) -> Result<u128, SyntaxError>
+fn constant_value(reader: &mut Reader<'_>, width: u8) -> Parsed<u128>
     ensures { Reads (SpellsConstant width) itself reader.old reader.new result }
 {
     let refusal = reader.refusal();
@@ -40,7 +40,7 @@ fn constant_value(reader: &mut Reader<'_>, width: u8) -> Result<u128, SyntaxErro
 }
 
 /// `Register<bit<WIDTH>>(CELLS) NAME;` or `Register<bit<WIDTH>>(CELLS)[SIZE] NAME;`
-pub fn register(alloc: Global, reader: &mut Reader<'_>, depth: u32) -> Result<Decl, SyntaxError>
+pub fn register(alloc: Global, reader: &mut Reader<'_>, depth: u32) -> Parsed<Decl>
     ensures { ReadsFlat a_register depth reader.old reader.new result }
 {
     reader.fixed_name(b"Register")?;
@@ -59,8 +59,8 @@ pub fn register(alloc: Global, reader: &mut Reader<'_>, depth: u32) -> Result<De
 }
 
 /// `(CELLS)`
-fn register_cells(alloc: Global, reader: &mut Reader<'_>, depth: u32) -> Result<Amount, SyntaxError>
+fn register_cells(alloc: Global, reader: &mut Reader<'_>, depth: u32) -> Parsed<Amount>
     ensures { ReadsWithin (InRound (λ _. SpellsAmount)) itself depth reader.old reader.new result }
 {
-    in_brackets(reader, b"(", b")", depth, |reader, _| amount(alloc, reader))
+    Brackets::Round(depth).around(reader, |reader, _| amount(alloc, reader))
 }

@@ -8,18 +8,18 @@ ghost use Rattle.p4_declarations.specs.Sums.{SpellsSum, SpellsTerm, TakesSign, R
 
 use elastic_ast::{Comp, LinTerm, Rel};
 use elx_bits::Items;
-use spelling::{Reader, SyntaxError, keep, separated};
+use spelling::{Parsed, Reader, keep, separated};
 use std::alloc::Global;
 
 /// Reads comparisons with `&&` between them.
-pub fn comparisons(alloc: Global, reader: &mut Reader<'_>) -> Result<Items<Comp>, SyntaxError>
+pub fn comparisons(alloc: Global, reader: &mut Reader<'_>) -> Parsed<Items<Comp>>
     ensures { ReadsBefore EndsComparison SpellsComparisons itself reader.old reader.new result }
 {
     separated(alloc, reader, b"&&", |reader| comparison(alloc, reader))
 }
 
 /// Reads two sums with a relation between them.
-fn comparison(alloc: Global, reader: &mut Reader<'_>) -> Result<Comp, SyntaxError>
+fn comparison(alloc: Global, reader: &mut Reader<'_>) -> Parsed<Comp>
     ensures { ReadsBefore EndsSum SpellsComparison itself reader.old reader.new result }
 {
     let left = sum(alloc, reader)?;
@@ -29,7 +29,7 @@ fn comparison(alloc: Global, reader: &mut Reader<'_>) -> Result<Comp, SyntaxErro
 }
 
 /// Reads the terms of a sum, each but the first with its sign.
-fn sum(alloc: Global, reader: &mut Reader<'_>) -> Result<Items<LinTerm>, SyntaxError>
+fn sum(alloc: Global, reader: &mut Reader<'_>) -> Parsed<Items<LinTerm>>
     ensures { ReadsBefore EndsSum SpellsSum itself reader.old reader.new result }
 {
     let mut terms = Items::new(alloc);
@@ -43,7 +43,7 @@ fn sum(alloc: Global, reader: &mut Reader<'_>) -> Result<Items<LinTerm>, SyntaxE
 }
 
 /// Reads what follows the sign of a term: a number, a name, or a number of times a name.
-pub fn term(alloc: Global, reader: &mut Reader<'_>, minus: bool) -> Result<LinTerm, SyntaxError>
+pub fn term(alloc: Global, reader: &mut Reader<'_>, minus: bool) -> Parsed<LinTerm>
     ensures { ReadsBefore EndsProduct (SpellsTerm minus) itself reader.old reader.new result }
 {
     if !reader.is_at_number() {
@@ -73,32 +73,29 @@ pub fn sign(reader: &mut Reader<'_>) -> Option<bool>
     ensures only { ReadsSign reader.old reader.new result }
 {
     if reader.eat_sign(b"-") {
-        return Some(true);
+        Some(true)
+    } else if reader.eat_sign(b"+") {
+        Some(false)
+    } else {
+        None
     }
-    if reader.eat_sign(b"+") {
-        return Some(false);
-    }
-    None
 }
 
 /// Reads a relation.
-fn relation(reader: &mut Reader<'_>) -> Result<Rel, SyntaxError>
+fn relation(reader: &mut Reader<'_>) -> Parsed<Rel>
     ensures { Reads SpellsRelation itself reader.old reader.new result }
 {
     if reader.eat_sign(b"<=") {
-        return Ok(Rel::Le);
+        Ok(Rel::Le)
+    } else if reader.eat_sign(b"<") {
+        Ok(Rel::Lt)
+    } else if reader.eat_sign(b">=") {
+        Ok(Rel::Ge)
+    } else if reader.eat_sign(b">") {
+        Ok(Rel::Gt)
+    } else if reader.eat_sign(b"==") {
+        Ok(Rel::Eq)
+    } else {
+        Err(reader.refusal())
     }
-    if reader.eat_sign(b"<") {
-        return Ok(Rel::Lt);
-    }
-    if reader.eat_sign(b">=") {
-        return Ok(Rel::Ge);
-    }
-    if reader.eat_sign(b">") {
-        return Ok(Rel::Gt);
-    }
-    if reader.eat_sign(b"==") {
-        return Ok(Rel::Eq);
-    }
-    Err(reader.refusal())
 }

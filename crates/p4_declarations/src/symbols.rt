@@ -11,69 +11,44 @@ use crate::gains::gains;
 use crate::sums::comparisons;
 use elastic_ast::{Comp, Decl, UtilTerm};
 use elx_bits::Items;
-use spelling::{Reader, SyntaxError, in_brackets};
+use spelling::{Brackets, Parsed, Reader, then_sign};
 use std::alloc::Global;
 
 /// `symbolic int NAME;`
-pub fn symbol(alloc: Global, reader: &mut Reader<'_>) -> Result<Decl, SyntaxError>
+pub fn symbol(alloc: Global, reader: &mut Reader<'_>) -> Parsed<Decl>
     ensures { (depth : ℕ) → ReadsFlat PlainDecl.Symbol depth reader.old reader.new result }
 {
     reader.reserved(b"symbolic")?;
     reader.reserved(b"int")?;
-    let name = ended_name(alloc, reader)?;
-    Ok(Decl::Symbol(name))
+    ended_name(alloc, reader).map(Decl::Symbol)
 }
 
 /// `assume(COMPARISONS);`
-pub fn assume(alloc: Global, reader: &mut Reader<'_>, depth: u32) -> Result<Decl, SyntaxError>
+pub fn assume(alloc: Global, reader: &mut Reader<'_>, depth: u32) -> Parsed<Decl>
     ensures { ReadsFlat PlainDecl.Assume depth reader.old reader.new result }
 {
     reader.fixed_name(b"assume")?;
-    let comps = assume_body(alloc, reader, depth)?;
-    reader.sign(b";")?;
-    Ok(Decl::Assume(comps))
+    then_sign(reader, b";", |reader| assume_body(alloc, reader, depth)).map(Decl::Assume)
 }
 
 /// `maximize(UTILITY);`
-pub fn maximize(alloc: Global, reader: &mut Reader<'_>, depth: u32) -> Result<Decl, SyntaxError>
+pub fn maximize(alloc: Global, reader: &mut Reader<'_>, depth: u32) -> Parsed<Decl>
     ensures { ReadsFlat PlainDecl.Maximize depth reader.old reader.new result }
 {
     reader.fixed_name(b"maximize")?;
-    let terms = maximize_body(alloc, reader, depth)?;
-    reader.sign(b";")?;
-    Ok(Decl::Maximize(terms))
+    then_sign(reader, b";", |reader| maximize_body(alloc, reader, depth)).map(Decl::Maximize)
 }
 
 /// `(COMPARISONS)`
-fn assume_body(
-    alloc: Global,
-    reader: &mut Reader<'_>,
-    depth: u32,
-) -> Result<Items<Comp>, SyntaxError>
+fn assume_body(alloc: Global, reader: &mut Reader<'_>, depth: u32) -> Parsed<Items<Comp>>
     ensures { ReadsWithin SpellsAssumption itself depth reader.old reader.new result }
 {
-    in_brackets(
-        reader,
-        b"(",
-        b")",
-        depth,
-        |reader, _| comparisons(alloc, reader),
-    )
+    Brackets::Round(depth).around(reader, |reader, _| comparisons(alloc, reader))
 }
 
 /// `(UTILITY)`
-fn maximize_body(
-    alloc: Global,
-    reader: &mut Reader<'_>,
-    depth: u32,
-) -> Result<Items<UtilTerm>, SyntaxError>
+fn maximize_body(alloc: Global, reader: &mut Reader<'_>, depth: u32) -> Parsed<Items<UtilTerm>>
     ensures { ReadsWithin (InRound SpellsGains) itself depth reader.old reader.new result }
 {
-    in_brackets(
-        reader,
-        b"(",
-        b")",
-        depth,
-        |reader, inner| gains(alloc, reader, inner),
-    )
+    Brackets::Round(depth).around(reader, |reader, inner| gains(alloc, reader, inner))
 }

@@ -1,13 +1,15 @@
 -- Derivations of small expressions.
-use Rattle.std.proofs.Common.{◌≡◌, ℕ, zero, suc, ◌<◌, ◌^◌, IsTrue, List, [], ◌∷◌, codes, refl, sym, subst, None}
+use Rattle.std.specs.Prelude.{slice_get}
+use Rattle.std.proofs.Common.{◌≡◌, ℕ, zero, suc, ◌<◌, ◌^◌, IsTrue, List, [], ◌∷◌, codes, refl, sym, subst, None, Some}
 use Rattle.p4_lexer.specs.declared.token.Kind.{Kind}
 use Rattle.p4_lexer.specs.declared.token.Kind.TheVariants as kind
 use Rattle.elastic_ast.specs.Tree.{PlainExpr}
-use Rattle.elastic_ast.specs.OperatorSorts.{Equal, BitAnd, ShiftUp, ShiftDown, Plus, Minus, Times, Turn, Negate}
+use Rattle.elastic_ast.specs.OperatorSorts.{Operator, ShiftDown, operators}
 use Rattle.spelling.specs.Words.{Word}
 use Rattle.spelling.specs.Grammar as grammar
-use Rattle.spelling.specs.Grammar.{Grammar, Sequence, One, IsSign, IsReserved, IsNamed}
-use Rattle.p4_expr.specs.Operators.{IsOperator, SpellsOperator}
+use Rattle.spelling.specs.Grammar.{Grammar, Sequence, One, IsSign, IsReserved, IsNamed, IsNum}
+use Rattle.p4_expr.specs.Operators.{IsOperator, SpellsOperator, code_of, level_of}
+use Rattle.p4_expr.specs.Parts.{SpellsBitRange, SpellsCast}
 use Rattle.p4_expr.specs.Expressions.{SpellsLevel, SpellsPrefixed, SpellsPrimary}
 
 pub is_sign : (text : List ℕ) (code : ℕ) (w : Word) → w.kind ≡ kind.Sign code → w.piece ≡ text → IsSign text w
@@ -43,32 +45,31 @@ name_last text w h e = word_last w (h, e)
 pub touching : (one two : Word) → one.kind ≡ kind.Sign 7 → one.piece ≡ codes ">" → two.kind ≡ kind.Sign 7 → two.piece ≡ codes ">" → one.end ≡ two.at → SpellsOperator ShiftDown (one ∷ two ∷ [])
 touching one two h e k f touch = record { one = one; other = two; both = refl; is_first = is_sign (codes ">") 7 one h e; is_second = is_sign (codes ">") 7 two k f; touch = touch }
 
-pub is_equal : IsOperator 8 2 Equal
-is_equal = record { coded = refl; level_is = refl }
+pub is_coded : (operator : Operator) → slice_get operators (code_of operator) ≡ Some operator → IsOperator (level_of operator) (code_of operator) operator
+is_coded op coded = record { coded = coded; level_is = refl }
 
-pub is_bit_and : IsOperator 4 10 BitAnd
-is_bit_and = record { coded = refl; level_is = refl }
+-- the bounds of a slice, and a cast, word by word
+pub bits_words : (depth : ℕ) {high low : ℕ} (o h c l e : Word) → (high < 2 ^ 8) × (low < 2 ^ 8) → o.kind ≡ kind.Sign 4 → o.piece ≡ codes "[" → h.kind ≡ kind.Number None high → c.kind ≡ kind.Sign 9 → c.piece ≡ codes ":" → l.kind ≡ kind.Number None low → e.kind ≡ kind.Sign 5 → e.piece ≡ codes "]" → SpellsBitRange (suc depth) high low (o ∷ h ∷ c ∷ l ∷ e ∷ [])
+bits_words depth o h c l e fits ok op hk ck cp lk ek ep = (
+  fits,
+  sign_first (codes "[") 4 o _ ok op record {
+    front = h ∷ c ∷ l ∷ [];
+    back = e ∷ [];
+    joined = refl;
+    first = word_first h _ hk (sign_first (codes ":") 9 c _ ck cp (word_last l lk));
+    second = sign_last (codes "]") 5 e ek ep;
+  },
+)
 
-pub is_shift_up : IsOperator 3 11 ShiftUp
-is_shift_up = record { coded = refl; level_is = refl }
-
-pub is_shift_down : IsOperator 3 12 ShiftDown
-is_shift_down = record { coded = refl; level_is = refl }
-
-pub is_plus : IsOperator 2 13 Plus
-is_plus = record { coded = refl; level_is = refl }
-
-pub is_minus : IsOperator 2 14 Minus
-is_minus = record { coded = refl; level_is = refl }
-
-pub is_times : IsOperator 1 16 Times
-is_times = record { coded = refl; level_is = refl }
-
-pub is_turn : IsOperator 0 17 Turn
-is_turn = record { coded = refl; level_is = refl }
-
-pub is_negate : IsOperator 0 18 Negate
-is_negate = record { coded = refl; level_is = refl }
+pub cast_words : (depth : ℕ) {width : ℕ} (o b l n g e : Word) → width < 2 ^ 8 → o.kind ≡ kind.Sign 2 → o.piece ≡ codes "(" → b.kind ≡ kind.Reserved 1 → b.piece ≡ codes "bit" → l.kind ≡ kind.Sign 6 → l.piece ≡ codes "<" → n.kind ≡ kind.Number None width → g.kind ≡ kind.Sign 7 → g.piece ≡ codes ">" → e.kind ≡ kind.Sign 3 → e.piece ≡ codes ")" → SpellsCast (suc depth) width (o ∷ b ∷ l ∷ n ∷ g ∷ e ∷ [])
+cast_words depth o b l n g e fits ok op bk bp lk lp nk gk gp ek ep =
+    sign_first (codes "(") 2 o _ ok op record {
+      front = b ∷ l ∷ n ∷ g ∷ [];
+      back = e ∷ [];
+      joined = refl;
+      first = (fits, reserved_first (codes "bit") 1 b _ bk bp (sign_first (codes "<") 6 l _ lk lp (word_first n _ nk (sign_last (codes ">") 7 g gk gp))));
+      second = sign_last (codes ")") 3 e ek ep;
+    }
 
 pub primary_name : (depth : ℕ) (text : List ℕ) (w : Word) → w.kind ≡ kind.Name → w.piece ≡ text → SpellsPrimary depth (PlainExpr.Named text) (w ∷ [])
 primary_name depth text w h e = SpellsPrimary.name (word_last w (h, e))

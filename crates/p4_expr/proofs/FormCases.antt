@@ -12,75 +12,27 @@ use Rattle.p4_expr.specs.declared.forms.Form.TheVariants as form
 
 pub number_there : (P : PlainExpr → Type 0) (depth : ℕ) (e : PlainExpr) {a c : List Word} → form.Number ≡ form_of e → MayTake (SpellsOwn depth e) a c → ((width : Option ℕ) (value : ℕ) → MayTake (SpellsNumber width value) a c → P (PlainExpr.Num width value)) → P e
 number_there P depth (PlainExpr.Num width value) is m h = h width value m
-number_there P depth (PlainExpr.Truth which) is m h = let clash : form.Number ≡ form.Truth = is in absurd cc
-number_there P depth (PlainExpr.Named name) is m h = let clash : form.Number ≡ form.Name = is in absurd cc
-number_there P depth (PlainExpr.At lval) is m h = let clash : form.Number ≡ form.Place = is in absurd cc
-number_there P depth (PlainExpr.IsValid header) is m h = let clash : form.Number ≡ form.Validity = is in absurd cc
-number_there P depth (PlainExpr.Unary op of) is m h = absurd m.spelled
-number_there P depth (PlainExpr.Binary op left right) is m h = absurd m.spelled
-number_there P depth (PlainExpr.Cast width of) is m h = absurd m.spelled
-number_there P depth (PlainExpr.Slice of high low) is m h = absurd m.spelled
-number_there P depth (PlainExpr.Hash number of modulus) is m h = let clash : form.Number ≡ form.Hash = is in absurd cc
+number_there P depth _ is m h = absurd cc
 
 pub truth_there : (P : PlainExpr → Type 0) (depth : ℕ) (e : PlainExpr) {a c : List Word} → form.Truth ≡ form_of e → MayTake (SpellsOwn depth e) a c → ((which : Bool) → MayTake (SpellsTruth which) a c → P (PlainExpr.Truth which)) → P e
-truth_there P depth (PlainExpr.Num width value) is m h = let clash : form.Truth ≡ form.Number = is in absurd cc
 truth_there P depth (PlainExpr.Truth which) is m h = h which m
-truth_there P depth (PlainExpr.Named name) is m h = let clash : form.Truth ≡ form.Name = is in absurd cc
-truth_there P depth (PlainExpr.At lval) is m h = let clash : form.Truth ≡ form.Place = is in absurd cc
-truth_there P depth (PlainExpr.IsValid header) is m h = let clash : form.Truth ≡ form.Validity = is in absurd cc
-truth_there P depth (PlainExpr.Unary op of) is m h = absurd m.spelled
-truth_there P depth (PlainExpr.Binary op left right) is m h = absurd m.spelled
-truth_there P depth (PlainExpr.Cast width of) is m h = absurd m.spelled
-truth_there P depth (PlainExpr.Slice of high low) is m h = absurd m.spelled
-truth_there P depth (PlainExpr.Hash number of modulus) is m h = let clash : form.Truth ≡ form.Hash = is in absurd cc
+truth_there P depth _ is m h = absurd cc
 
 pub name_there : (P : PlainExpr → Type 0) (depth : ℕ) (e : PlainExpr) {a c : List Word} → form.Name ≡ form_of e → MayTake (SpellsOwn depth e) a c → ((name : List ℕ) → MayTake (Named name) a c → P (PlainExpr.Named name)) → P e
-name_there P depth (PlainExpr.Num width value) is m h = let clash : form.Name ≡ form.Number = is in absurd cc
-name_there P depth (PlainExpr.Truth which) is m h = let clash : form.Name ≡ form.Truth = is in absurd cc
 name_there P depth (PlainExpr.Named name) is m h = h name m
-name_there P depth (PlainExpr.At lval) is m h = let clash : form.Name ≡ form.Place = is in absurd cc
-name_there P depth (PlainExpr.IsValid header) is m h = let clash : form.Name ≡ form.Validity = is in absurd cc
-name_there P depth (PlainExpr.Unary op of) is m h = absurd m.spelled
-name_there P depth (PlainExpr.Binary op left right) is m h = absurd m.spelled
-name_there P depth (PlainExpr.Cast width of) is m h = absurd m.spelled
-name_there P depth (PlainExpr.Slice of high low) is m h = absurd m.spelled
-name_there P depth (PlainExpr.Hash number of modulus) is m h = let clash : form.Name ≡ form.Hash = is in absurd cc
+name_there P depth _ is m h = absurd cc
 
 pub place_there : (P : PlainExpr → Type 0) (depth : ℕ) (e : PlainExpr) {a c : List Word} → form.Place ≡ form_of e → MayTake (SpellsOwn depth e) a c → ((lval : Lval) → MayTake (SpellsLval depth lval) a c → P (PlainExpr.At lval)) → P e
-place_there P depth (PlainExpr.Num width value) is m h = let clash : form.Place ≡ form.Number = is in absurd cc
-place_there P depth (PlainExpr.Truth which) is m h = let clash : form.Place ≡ form.Truth = is in absurd cc
-place_there P depth (PlainExpr.Named name) is m h = let clash : form.Place ≡ form.Name = is in absurd cc
 place_there P depth (PlainExpr.At lval) is m h = h lval m
-place_there P depth (PlainExpr.IsValid header) is m h = let clash : form.Place ≡ form.Validity = is in absurd cc
-place_there P depth (PlainExpr.Unary op of) is m h = absurd m.spelled
-place_there P depth (PlainExpr.Binary op left right) is m h = absurd m.spelled
-place_there P depth (PlainExpr.Cast width of) is m h = absurd m.spelled
-place_there P depth (PlainExpr.Slice of high low) is m h = absurd m.spelled
-place_there P depth (PlainExpr.Hash number of modulus) is m h = let clash : form.Place ≡ form.Hash = is in absurd cc
+place_there P depth _ is m h = absurd cc
 
 pub test_there : (P : PlainExpr → Type 0) (depth : ℕ) (e : PlainExpr) {a c : List Word} → form.Validity ≡ form_of e → MayTake (SpellsOwn depth e) a c → ((header : List ℕ) → MayTake (SpellsIsValid depth header) a c → P (PlainExpr.IsValid header)) → P e
-test_there P depth (PlainExpr.Num width value) is m h = let clash : form.Validity ≡ form.Number = is in absurd cc
-test_there P depth (PlainExpr.Truth which) is m h = let clash : form.Validity ≡ form.Truth = is in absurd cc
-test_there P depth (PlainExpr.Named name) is m h = let clash : form.Validity ≡ form.Name = is in absurd cc
-test_there P depth (PlainExpr.At lval) is m h = let clash : form.Validity ≡ form.Place = is in absurd cc
 test_there P depth (PlainExpr.IsValid header) is m h = h header m
-test_there P depth (PlainExpr.Unary op of) is m h = absurd m.spelled
-test_there P depth (PlainExpr.Binary op left right) is m h = absurd m.spelled
-test_there P depth (PlainExpr.Cast width of) is m h = absurd m.spelled
-test_there P depth (PlainExpr.Slice of high low) is m h = absurd m.spelled
-test_there P depth (PlainExpr.Hash number of modulus) is m h = let clash : form.Validity ≡ form.Hash = is in absurd cc
+test_there P depth _ is m h = absurd cc
 
 pub hash_there : (P : PlainExpr → Type 0) (depth : ℕ) (e : PlainExpr) {a c : List Word} → form.Hash ≡ form_of e → MayTake (SpellsOwn depth e) a c → ((number : Amount) (of : PlainExpr) (modulus : Amount) → MayTake (SpellsOwn depth (PlainExpr.Hash number of modulus)) a c → P (PlainExpr.Hash number of modulus)) → P e
-hash_there P depth (PlainExpr.Num width value) is m h = let clash : form.Hash ≡ form.Number = is in absurd cc
-hash_there P depth (PlainExpr.Truth which) is m h = let clash : form.Hash ≡ form.Truth = is in absurd cc
-hash_there P depth (PlainExpr.Named name) is m h = let clash : form.Hash ≡ form.Name = is in absurd cc
-hash_there P depth (PlainExpr.At lval) is m h = let clash : form.Hash ≡ form.Place = is in absurd cc
-hash_there P depth (PlainExpr.IsValid header) is m h = let clash : form.Hash ≡ form.Validity = is in absurd cc
-hash_there P depth (PlainExpr.Unary op of) is m h = absurd m.spelled
-hash_there P depth (PlainExpr.Binary op left right) is m h = absurd m.spelled
-hash_there P depth (PlainExpr.Cast width of) is m h = absurd m.spelled
-hash_there P depth (PlainExpr.Slice of high low) is m h = absurd m.spelled
 hash_there P depth (PlainExpr.Hash number of modulus) is m h = h number of modulus m
+hash_there P depth _ is m h = absurd cc
 
 -- there are no more forms
 pub none_there : (P : PlainExpr → Type 0) (depth : ℕ) (e : PlainExpr) {a c : List Word} → (form.Number ≡ form_of e → ⊥) → (form.Truth ≡ form_of e → ⊥) → (form.Name ≡ form_of e → ⊥) → (form.Place ≡ form_of e → ⊥) → (form.Validity ≡ form_of e → ⊥) → (form.Hash ≡ form_of e → ⊥) → MayTake (SpellsOwn depth e) a c → P e
@@ -89,8 +41,5 @@ none_there P depth (PlainExpr.Truth which) no_number no_truth no_name no_place n
 none_there P depth (PlainExpr.Named name) no_number no_truth no_name no_place no_test no_hash m = absurd (no_name refl)
 none_there P depth (PlainExpr.At lval) no_number no_truth no_name no_place no_test no_hash m = absurd (no_place refl)
 none_there P depth (PlainExpr.IsValid header) no_number no_truth no_name no_place no_test no_hash m = absurd (no_test refl)
-none_there P depth (PlainExpr.Unary op of) no_number no_truth no_name no_place no_test no_hash m = absurd m.spelled
-none_there P depth (PlainExpr.Binary op left right) no_number no_truth no_name no_place no_test no_hash m = absurd m.spelled
-none_there P depth (PlainExpr.Cast width of) no_number no_truth no_name no_place no_test no_hash m = absurd m.spelled
-none_there P depth (PlainExpr.Slice of high low) no_number no_truth no_name no_place no_test no_hash m = absurd m.spelled
 none_there P depth (PlainExpr.Hash number of modulus) no_number no_truth no_name no_place no_test no_hash m = absurd (no_hash refl)
+none_there P depth _ no_number no_truth no_name no_place no_test no_hash m = absurd m.spelled

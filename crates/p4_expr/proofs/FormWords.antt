@@ -8,13 +8,16 @@ use Rattle.elastic_ast.specs.declared.statements.Lval.{Lval}
 use Rattle.elastic_ast.specs.declared.statements.Lval.TheVariants as lval
 use Rattle.elastic_ast.specs.Tree.{PlainExpr}
 use Rattle.spelling.specs.Words.{Word}
-use Rattle.spelling.specs.Grammar.{Grammar, ◌⨟◌, One, IsSign, IsNamed, IsReserved, Begins, is_number, is_reserved, is_sign}
+use Rattle.spelling.specs.Grammar.{Grammar, ◌⨟◌, One, IsSign, IsNamed, IsReserved, Begins, IsAnyNumber, is_number, is_reserved, is_sign}
 use Rattle.spelling.specs.Reading.{MayTake}
 use Rattle.spelling.proofs.Only.{alone, begins, begins_bracketed, begins_first, behind_first, empty_same, not_sign, of_where, other_text, regroup}
 use Rattle.p4_expr.proofs.PartSpelling.{name_no_number}
 use Rattle.p4_expr.specs.Parts.{SpellsHeader, SpellsLval, SpellsIsValid}
 use Rattle.p4_expr.specs.Bases.{SpellsOwn, form_of}
-use Rattle.p4_expr.specs.Standing.{StandsTest, StandsHash}
+use Rattle.p4_expr.specs.Expressions.{SpellsExpr}
+use Rattle.p4_expr.specs.FormsAhead.{TellsForm, Told}
+use Rattle.p4_expr.specs.Readings.{BeginsName, BeginsTest}
+use Rattle.p4_expr.specs.Standing.{EndsBase, StandsTest, StandsHash}
 use Rattle.p4_expr.specs.declared.forms.Form.{Form}
 use Rattle.p4_expr.specs.declared.forms.Form.TheVariants as form
 
@@ -85,11 +88,8 @@ own_first R depth (PlainExpr.Truth false) m number truth name = truth (inr (begi
 own_first R depth (PlainExpr.Named n) {a = a} m number truth name = name (begins_name _ a (begins m))
 own_first R depth (PlainExpr.At l) {a = a} {c = c} m number truth name = name (lval_name a c (lval_words depth l a c m))
 own_first R depth (PlainExpr.IsValid header) {a = a} {c = c} m number truth name = name (begins_name _ a (test_words depth header a c m).0)
-own_first R depth (PlainExpr.Unary op of) m number truth name = absurd m.spelled
-own_first R depth (PlainExpr.Binary op left right) m number truth name = absurd m.spelled
-own_first R depth (PlainExpr.Cast width of) m number truth name = absurd m.spelled
-own_first R depth (PlainExpr.Slice of high low) m number truth name = absurd m.spelled
 own_first R depth (PlainExpr.Hash k of modulus) {a = a} m number truth name = name (begins_name _ a (begins_first m))
+own_first R depth _ m number truth name = absurd m.spelled
 
 -- by the form of what begins with a name
 pub by_name : (R : Form → Type 0) (depth : ℕ) (e : PlainExpr) {a c : List Word} → MayTake (SpellsOwn depth e) a c → Begins (λ word. word.kind ≡ kind.Name) a → (drop 1 a ≡ c → R form.Name) → (LvalWords a c → R form.Place) → (Begins (IsNamed (codes "hdr")) a × Begins (IsSign (codes ".")) (drop 1 a) × StandsTest a → R form.Validity) → (StandsHash a → R form.Hash) → R (form_of e)
@@ -99,21 +99,15 @@ by_name R depth (PlainExpr.Truth false) {a = a} m b name place test hash = absur
 by_name R depth (PlainExpr.Named n) m b name place test hash = name (empty_same (behind_first (alone m)))
 by_name R depth (PlainExpr.At l) {a = a} {c = c} m b name place test hash = place (lval_words depth l a c m)
 by_name R depth (PlainExpr.IsValid header) {a = a} {c = c} m b name place test hash = test (test_words depth header a c m)
-by_name R depth (PlainExpr.Unary op of) m b name place test hash = absurd m.spelled
-by_name R depth (PlainExpr.Binary op left right) m b name place test hash = absurd m.spelled
-by_name R depth (PlainExpr.Cast width of) m b name place test hash = absurd m.spelled
-by_name R depth (PlainExpr.Slice of high low) m b name place test hash = absurd m.spelled
 by_name R depth (PlainExpr.Hash k of modulus) m b name place test hash = hash (begins_first m, begins_bracketed _ _ depth _ (behind_first m))
+by_name R depth _ m b name place test hash = absurd m.spelled
 
 pub name_no_sign : (t : List ℕ) (a : List Word) → Begins (λ word. word.kind ≡ kind.Name) a → Begins (IsSign t) a → ⊥
 name_no_sign t a b s = not_sign t a (λ word h. ap is_sign h) b s
 
 pub number_sort : (k : Kind) → IsTrue (is_number k) → (is_sign k ≡ false) × (is_reserved k ≡ false)
-number_sort (kind.Reserved code) h = absurd (false≢true h)
-number_sort (kind.Sign code) h = absurd (false≢true h)
-number_sort kind.Name h = absurd (false≢true h)
 number_sort (kind.Number width value) h = (refl, refl)
-number_sort (kind.Include file) h = absurd (false≢true h)
+number_sort _ h = absurd (false≢true h)
 
 pub number_no_sign : (t : List ℕ) (a : List Word) → Begins (λ word. IsTrue (is_number word.kind)) a → Begins (IsSign t) a → ⊥
 number_no_sign t a b s = not_sign t a (λ word h. (number_sort word.kind h).0) b s
@@ -121,3 +115,54 @@ number_no_sign t a b s = not_sign t a (λ word h. (number_sort word.kind h).0) b
 pub number_no_word : (t : List ℕ) (a : List Word) → Begins (λ word. IsTrue (is_number word.kind)) a → Begins (IsReserved t) a → ⊥
 number_no_word t [] b r = b
 number_no_word t (word ∷ ws) b r = false≢true (sym (number_sort word.kind b).1 ∙ r.0)
+
+told_same : (told spelled : Form) (rest : List Word) → told ≡ spelled → Told told spelled rest
+told_same form.Place spelled rest is = inl is
+told_same form.Validity spelled rest is = inl is
+told_same form.Hash spelled rest is = inl is
+told_same _ spelled rest is = is
+
+-- where nothing goes on behind what is spelled, it is of the form that is told
+pub told_whole : (told spelled : Form) (rest : List Word) → Told told spelled rest → EndsBase rest → told ≡ spelled
+told_whole form.Place spelled rest t ends = elim t [ inl is ↦ is | inr n ↦ absurd (ends.place n.1) ]
+told_whole form.Validity spelled rest t ends = elim t [ inl is ↦ is | inr (inl n) ↦ absurd (ends.place n.1) | inr (inr p) ↦ absurd (ends.call p.1) ]
+told_whole form.Hash spelled rest t ends = elim t [ inl is ↦ is | inr n ↦ absurd (ends.call n.1) ]
+told_whole _ spelled rest t ends = t
+
+tells : (told : Form) {ws : List Word} → ((depth : ℕ) (e : PlainExpr) (rest : List Word) → MayTake (SpellsOwn depth e) ws rest → Told told (form_of e) rest) → (Begins (IsSign (codes "(")) ws → told ≡ form.Bracketed) → (told ≡ form.Hash → StandsHash ws) → (told ≡ form.Validity → BeginsTest ws) → TellsForm ws told
+tells told own bracket hash test =
+    record {
+      told = own;
+      bracketed = λ depth e rest m. bracket (begins_bracketed (codes "(") (codes ")") depth (λ inner. SpellsExpr inner e) m);
+      hash = hash;
+      test = test;
+    }
+
+-- the form of words that begin with a name
+pub named_form : (told : Form) {ws : List Word} → BeginsName ws → ((rest : List Word) → drop 1 ws ≡ rest → Told told form.Name rest) → ((rest : List Word) → LvalWords ws rest → Told told form.Place rest) → ((rest : List Word) → Begins (IsNamed (codes "hdr")) ws × Begins (IsSign (codes ".")) (drop 1 ws) × StandsTest ws → Told told form.Validity rest) → ((rest : List Word) → StandsHash ws → Told told form.Hash rest) → (told ≡ form.Hash → StandsHash ws) → (told ≡ form.Validity → BeginsTest ws) → TellsForm ws told
+named_form told {ws = ws} b name place test hash =
+    tells told (λ depth e rest m. by_name (λ f. Told told f rest) depth e m b (name rest) (place rest) (test rest) (hash rest)) (λ s. absurd (name_no_sign (codes "(") ws b s))
+
+-- that of a place with a dot behind its first word
+pub place_form : {ws : List Word} → BeginsName ws → Begins (IsSign (codes ".")) (drop 1 ws) → (StandsHash ws → ⊥) → (Begins (IsNamed (codes "hdr")) ws → StandsTest ws → ⊥) → TellsForm ws form.Place
+place_form b dot no_hash no_test =
+    named_form form.Place b
+    (λ rest end. inr (refl, subst (Begins (IsSign (codes "."))) end dot))
+    (λ rest w. inl refl)
+    (λ rest w. absurd (no_test w.0 w.2))
+    (λ rest h. absurd (no_hash h))
+    (λ h. absurd cc)
+    (λ t. absurd cc)
+
+-- and that of words that don't
+pub unnamed_form : (told : Form) {ws : List Word} → (BeginsName ws → ⊥) → (Begins IsAnyNumber ws → told ≡ form.Number) → (Begins (IsReserved (codes "true")) ws ⊎ Begins (IsReserved (codes "false")) ws → told ≡ form.Truth) → (Begins (IsSign (codes "(")) ws → told ≡ form.Bracketed) → (told ≡ form.Hash → ⊥) → (told ≡ form.Validity → ⊥) → TellsForm ws told
+unnamed_form told none number truth bracket no_hash no_test =
+    tells told
+    (λ depth e rest m. told_same told (form_of e) rest (own_first (λ f. told ≡ f) depth e m number truth (λ b. absurd (none b))))
+    bracket
+    (λ h. absurd (no_hash h))
+    (λ t. absurd (no_test t))
+
+pub truth_form : {ws : List Word} → (BeginsName ws → ⊥) → (Begins IsAnyNumber ws → ⊥) → (Begins (IsSign (codes "(")) ws → ⊥) → TellsForm ws form.Truth
+truth_form none no_number no_bracket =
+    unnamed_form form.Truth none (λ b. absurd (no_number b)) (λ w. refl) (λ b. absurd (no_bracket b)) (λ h. cc) (λ t. cc)

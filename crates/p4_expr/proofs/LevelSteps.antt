@@ -1,6 +1,6 @@
 -- Reading the operators of a level one by one.
 use Rattle.std.proofs.Common.{◌≡◌, ℕ, List, [], ◌∷◌, ◌++◌, codes, drop, sym, ap, subst, ◌∙◌}
-use Rattle.elastic_ast.specs.OperatorSorts.{Operator, Or, And, Equal, Differ, Less, AtMost, Greater, AtLeast, BitOr, BitXor, BitAnd, ShiftUp, ShiftDown, Plus, Minus, Join, Times, Turn, Negate, NoOperator}
+use Rattle.elastic_ast.specs.OperatorSorts.{Operator, ShiftDown, NoOperator}
 use Rattle.spelling.specs.Words.{Word}
 use Rattle.spelling.specs.Grammar.{Grammar, ◌⨟◌, TwoTouching, Sign, IsSign, Begins, BeginTouching}
 use Rattle.spelling.specs.Reading.{Takes, MayTake}
@@ -14,9 +14,6 @@ use Rattle.p4_expr.proofs.LevelParts.{SpellsStep, Step, level_starts}
 use Rattle.p4_expr.proofs.Starts.{IsStart, begins_taken, never_both}
 
 -- an operator that is spelled stands there
-stands_one : (text : List ℕ) {a c : List Word} → MayTake (Sign text) a c → Begins (IsSign text) a
-stands_one text m = begins m
-
 stands_two : {F G : Word → Type 0} {a c : List Word} → MayTake (TwoTouching F G) a c → BeginTouching F G a
 stands_two {F = F} {G = G} {c = c} m =
     let s = m.spelled in
@@ -26,24 +23,7 @@ stands_two {F = F} {G = G} {c = c} m =
 pub stands_there : (operator : Operator) {a c : List Word} → MayTake (SpellsOperator operator) a c → Stands operator a
 stands_there ShiftDown m = stands_two m
 stands_there NoOperator m = absurd m.spelled
-stands_there Or m = begins m
-stands_there And m = begins m
-stands_there Equal m = begins m
-stands_there Differ m = begins m
-stands_there Less m = begins m
-stands_there AtMost m = begins m
-stands_there Greater m = begins m
-stands_there AtLeast m = begins m
-stands_there BitOr m = begins m
-stands_there BitXor m = begins m
-stands_there BitAnd m = begins m
-stands_there ShiftUp m = begins m
-stands_there Plus m = begins m
-stands_there Minus m = begins m
-stands_there Join m = begins m
-stands_there Times m = begins m
-stands_there Turn m = begins m
-stands_there Negate m = begins m
+stands_there _ m = begins m
 
 -- what follows two words that touch
 two_end : {F G H I : Word → Type 0} {a b c : List Word} → MayTake (TwoTouching F G) a c → MayTake (TwoTouching H I) a b → b ≡ c
@@ -58,30 +38,10 @@ two_after {Q = Q} {c = c} m t =
     let s = split m in
     subst (λ ws. MayTake Q ws c) (sym (two_end s.first (may t))) s.second
 
-after_sign : (text : List ℕ) (Q : Grammar) (a b c : List Word) → Takes (Sign text) a b → MayTake (Sign text ⨟ Q) a c → MayTake Q b c
-after_sign text Q a b c t m = after_one m t
-
 pub after_operator : (operator : Operator) (Q : Grammar) (a b c : List Word) → Takes (SpellsOperator operator) a b → MayTake (SpellsOperator operator ⨟ Q) a c → MayTake Q b c
 after_operator ShiftDown Q a b c t m = two_after m t
 after_operator NoOperator Q a b c t m = absurd t.spelled
-after_operator Or Q a b c t m = after_one m t
-after_operator And Q a b c t m = after_one m t
-after_operator Equal Q a b c t m = after_one m t
-after_operator Differ Q a b c t m = after_one m t
-after_operator Less Q a b c t m = after_one m t
-after_operator AtMost Q a b c t m = after_one m t
-after_operator Greater Q a b c t m = after_one m t
-after_operator AtLeast Q a b c t m = after_one m t
-after_operator BitOr Q a b c t m = after_one m t
-after_operator BitXor Q a b c t m = after_one m t
-after_operator BitAnd Q a b c t m = after_one m t
-after_operator ShiftUp Q a b c t m = after_one m t
-after_operator Plus Q a b c t m = after_one m t
-after_operator Minus Q a b c t m = after_one m t
-after_operator Join Q a b c t m = after_one m t
-after_operator Times Q a b c t m = after_one m t
-after_operator Turn Q a b c t m = after_one m t
-after_operator Negate Q a b c t m = after_one m t
+after_operator _ Q a b c t m = after_one m t
 
 no_touch : (word : Word) (ws : List Word) → BeginTouching (IsSign (codes ">")) (IsSign (codes ">")) (word ∷ ws) → (Begins (IsSign (codes ">")) ws → ⊥) → ⊥
 no_touch word [] touch none = touch

@@ -25,26 +25,12 @@ begins_there text opening inside closing ws o e =
     subst (Begins (IsSign text)) (sym e) (subst Opens (sym o.alone) first)
 
 pub primary_begins : {depth : ℕ} {e : PlainExpr} {ws : List Word} → SpellsPrimary depth e ws → is_primary e ≡ false → Begins (IsSign (codes "(")) ws
-primary_begins (SpellsPrimary.number h) other = let clash : true ≡ false = other in absurd cc
-primary_begins (SpellsPrimary.name h) other = let clash : true ≡ false = other in absurd cc
-primary_begins (SpellsPrimary.truth h) other = let clash : true ≡ false = other in absurd cc
-primary_begins (SpellsPrimary.place h) other = let clash : true ≡ false = other in absurd cc
-primary_begins (SpellsPrimary.is_valid h) other = let clash : true ≡ false = other in absurd cc
 primary_begins {ws = ws} (SpellsPrimary.bracketed opening inside closing o h c e) other = begins_there (codes "(") opening inside closing ws o e
-primary_begins (SpellsPrimary.hash name opening front inside back closing n o f h b c e) other = let clash : true ≡ false = other in absurd cc
-primary_begins (SpellsPrimary.slice front back first second e) other = let clash : true ≡ false = other in absurd cc
+primary_begins _ other = absurd cc
 
 stronger_is_binary : (e : PlainExpr) (level : ℕ) → level < strength e → is_primary e ≡ false
 stronger_is_binary (PlainExpr.Binary op left right) level lt = refl
-stronger_is_binary (PlainExpr.Num width value) level lt = absurd (omega (arith, lt))
-stronger_is_binary (PlainExpr.Truth which) level lt = absurd (omega (arith, lt))
-stronger_is_binary (PlainExpr.Named name) level lt = absurd (omega (arith, lt))
-stronger_is_binary (PlainExpr.At lval) level lt = absurd (omega (arith, lt))
-stronger_is_binary (PlainExpr.IsValid header) level lt = absurd (omega (arith, lt))
-stronger_is_binary (PlainExpr.Unary op of) level lt = absurd (omega (arith, lt))
-stronger_is_binary (PlainExpr.Cast width of) level lt = absurd (omega (arith, lt))
-stronger_is_binary (PlainExpr.Slice of high low) level lt = absurd (omega (arith, lt))
-stronger_is_binary (PlainExpr.Hash number of modulus) level lt = absurd (omega (arith, lt))
+stronger_is_binary _ level lt = absurd (omega (arith, lt))
 
 prefixed_begins : {depth : ℕ} {e : PlainExpr} {ws : List Word} → SpellsPrefixed depth e ws → 0 < strength e → Begins (IsSign (codes "(")) ws
 prefixed_begins {e = e} (SpellsPrefixed.primary h) lt = primary_begins h (stronger_is_binary e 0 lt)

@@ -22,9 +22,14 @@ pub mod Starts
 pub mod Counting
 pub mod FormCases
 pub mod FormWords
+pub mod OneForm
 pub mod PieceSpelling
 pub mod InLines
 pub mod Bound
 pub mod PassingLaws
 pub mod LinesAhead
 pub mod GoingOn
+pub mod IndexEnds
+pub mod Longest
+pub mod ExprReaders
+pub mod LeftGrown

@@ -4,11 +4,11 @@ use Rattle.elastic_ast.specs.OperatorSorts.{Turn}
 use Rattle.p4_expr.specs.Operators.{operators_in}
 use Rattle.p4_expr.specs.Expressions.{SpellsPrefixed, SpellsLevel, SpellsExpr, HasFewOperators, most_operators}
 use Rattle.p4_expr.specs.Examples.{turned, turned_words}
-use Rattle.p4_expr.proofs.Building.{sign_last, prefixed_name, is_turn, lift}
+use Rattle.p4_expr.proofs.Building.{sign_last, prefixed_name, lift, is_coded}
 
 turned_prefixed : (n : ℕ) → SpellsPrefixed 0 (turned n) (turned_words n)
 turned_prefixed zero = prefixed_name 0 (codes "a") _ refl refl
-turned_prefixed (suc n) = SpellsPrefixed.unary Turn _ (turned_words n) is_turn (sign_last (codes "~") 19 _ refl refl) (turned_prefixed n) refl
+turned_prefixed (suc n) = SpellsPrefixed.unary Turn _ (turned_words n) (is_coded Turn refl) (sign_last (codes "~") 19 _ refl refl) (turned_prefixed n) refl
 
 turned_operators : (n : ℕ) → operators_in (turned n) ≡ n
 unfolding operators_in

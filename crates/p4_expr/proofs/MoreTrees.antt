@@ -3,15 +3,15 @@ use Rattle.std.proofs.Common.{[], ◌∷◌, codes, refl, lit<}
 use Rattle.elastic_ast.specs.OperatorSorts.{Equal, BitAnd, ShiftUp, Plus, Turn}
 use Rattle.p4_expr.specs.Expressions.{SpellsLevel, SpellsPrefixed, SpellsPrimary, SpellsExpr}
 use Rattle.p4_expr.specs.Examples.{tree_of_validity, tree_of_hash_of_name, tree_of_byte_of_sum, tree_of_turned_slice, tree_of_and_in_equation, tree_of_shift_of_sum, shift_of_sum, and_in_equation, turned_slice, byte_of_sum, hash_of_name, validity}
-use Rattle.p4_expr.proofs.Building.{sign_first, sign_last, reserved_first, name_first, name_last, word_first, word_last, is_equal, is_bit_and, is_shift_up, is_plus, is_turn, primary_name, one_name, from_none, lift}
+use Rattle.p4_expr.proofs.Building.{sign_first, sign_last, name_first, name_last, word_last, primary_name, one_name, from_none, lift, is_coded, bits_words, cast_words}
 
 pub shift_of_sum_tree : SpellsExpr 0 tree_of_shift_of_sum shift_of_sum
 shift_of_sum_tree =
     lift 7
-    (SpellsLevel.binary ShiftUp _ _ _ is_shift_up
+    (SpellsLevel.binary ShiftUp _ _ _ (is_coded ShiftUp refl)
     (lift 3 (one_name 0 (codes "a") _ refl refl))
     (sign_last (codes "<<") 28 _ refl refl)
-    (SpellsLevel.binary Plus _ _ _ is_plus
+    (SpellsLevel.binary Plus _ _ _ (is_coded Plus refl)
     (lift 2 (one_name 0 (codes "b") _ refl refl))
     (sign_last (codes "+") 13 _ refl refl)
     (lift 1 (one_name 0 (codes "c") _ refl refl))
@@ -21,11 +21,11 @@ shift_of_sum_tree =
 pub and_in_equation_tree : SpellsExpr 0 tree_of_and_in_equation and_in_equation
 and_in_equation_tree =
     lift 2
-    (SpellsLevel.binary Equal _ _ _ is_equal
+    (SpellsLevel.binary Equal _ _ _ (is_coded Equal refl)
     (lift 8 (one_name 0 (codes "a") _ refl refl))
     (sign_last (codes "==") 22 _ refl refl)
     (lift 3
-    (SpellsLevel.binary BitAnd _ _ _ is_bit_and
+    (SpellsLevel.binary BitAnd _ _ _ (is_coded BitAnd refl)
     (lift 4 (one_name 0 (codes "b") _ refl refl))
     (sign_last (codes "&") 16 _ refl refl)
     (lift 3 (one_name 0 (codes "c") _ refl refl))
@@ -35,19 +35,10 @@ and_in_equation_tree =
 pub turned_slice_tree : SpellsExpr 1 tree_of_turned_slice turned_slice
 turned_slice_tree =
     lift 10 (SpellsLevel.prefixed
-    (SpellsPrefixed.unary Turn _ _ is_turn (sign_last (codes "~") 19 _ refl refl)
+    (SpellsPrefixed.unary Turn _ _ (is_coded Turn refl) (sign_last (codes "~") 19 _ refl refl)
     (SpellsPrefixed.primary
-    (SpellsPrimary.slice _ _ (primary_name 1 (codes "x") _ refl refl) (
-      (lit< tt, lit< tt),
-      sign_first (codes "[") 4 _ _ refl refl
-          record {
-            front = _ ∷ _ ∷ _ ∷ [];
-            back = _ ∷ [];
-            joined = refl;
-            first = word_first _ _ refl (sign_first (codes ":") 9 _ _ refl refl (word_last _ refl));
-            second = sign_last (codes "]") 5 _ refl refl;
-          },
-    )
+    (SpellsPrimary.slice _ _ (primary_name 1 (codes "x") _ refl refl)
+    (bits_words 0 _ _ _ _ _ (lit< tt, lit< tt) refl refl refl refl refl refl refl refl)
     refl))
     refl))
 
@@ -55,18 +46,11 @@ pub byte_of_sum_tree : SpellsExpr 1 tree_of_byte_of_sum byte_of_sum
 byte_of_sum_tree =
     lift 10 (SpellsLevel.prefixed
     (SpellsPrefixed.cast (_ ∷ _ ∷ _ ∷ _ ∷ _ ∷ _ ∷ []) _
-    (sign_first (codes "(") 2 _ _ refl refl
-    record {
-      front = _ ∷ _ ∷ _ ∷ _ ∷ [];
-      back = _ ∷ [];
-      joined = refl;
-      first = (lit< tt, reserved_first (codes "bit") 1 _ _ refl refl (sign_first (codes "<") 6 _ _ refl refl (word_first _ _ refl (sign_last (codes ">") 7 _ refl refl))));
-      second = sign_last (codes ")") 3 _ refl refl;
-    })
+    (cast_words 0 _ _ _ _ _ _ (lit< tt) refl refl refl refl refl refl refl refl refl refl refl)
     (SpellsPrefixed.primary
     (SpellsPrimary.bracketed _ _ _ (sign_last (codes "(") 2 _ refl refl)
     (lift 8
-    (SpellsLevel.binary Plus _ _ _ is_plus
+    (SpellsLevel.binary Plus _ _ _ (is_coded Plus refl)
     (lift 2 (one_name 0 (codes "a") _ refl refl))
     (sign_last (codes "+") 13 _ refl refl)
     (lift 1 (one_name 0 (codes "b") _ refl refl))

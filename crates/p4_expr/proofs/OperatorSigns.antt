@@ -1,7 +1,7 @@
 -- An operator that was passed, by its row in the table of levels.
-use Rattle.std.proofs.Common.{◌≡◌, ℕ, List, Some, sym, subst, ◌∙◌}
+use Rattle.std.proofs.Common.{◌≡◌, ℕ, List, Some, sym, subst}
 use Rattle.std.specs.Prelude.{slice_get}
-use Rattle.elastic_ast.specs.OperatorSorts.{Operator, operators}
+use Rattle.elastic_ast.specs.OperatorSorts.{operator_of, operators}
 use Rattle.spelling.specs.Words.{Word}
 use Rattle.spelling.specs.Grammar.{Grammar}
 use Rattle.spelling.specs.Reading.{Takes, ahead}
@@ -13,5 +13,5 @@ use Rattle.p4_expr.specs.Standing.{Passes}
 pub stayed : {Of : Grammar} {first now : Reader} {after : List Word} → now ≡ first → Takes Of (ahead now) after → Takes Of (ahead first) after
 stayed {Of = Of} {after = after} same takes = subst (λ reader. Takes Of (ahead reader) after) same takes
 
-pub passes : {level at code : ℕ} {before after : List Word} (operator : Operator) → level ≡ at → level_of operator ≡ at → slice_get operators code ≡ Some operator → Takes (SpellsOperator operator) before after → Passes level code before after
-passes operator is at coded takes = record { operator = operator; is = record { coded = coded; level_is = at ∙ sym is }; takes = takes }
+pub passes : {level code : ℕ} {before after : List Word} → level ≡ level_of (operator_of code) → slice_get operators code ≡ Some (operator_of code) → Takes (SpellsOperator (operator_of code)) before after → Passes level code before after
+passes {code = code} is coded takes = record { operator = operator_of code; is = record { coded = coded; level_is = sym is }; takes = takes }

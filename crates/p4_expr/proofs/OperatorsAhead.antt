@@ -1,7 +1,7 @@
 -- Which operator stands first.
 use Rattle.std.proofs.Common.{◌≡◌, ℕ, zero, suc, ◌+◌, ◌≤◌, Bool, true, false, bytes_eq, cond, List, Some, None, [], ◌∷◌, codes, refl, sym, ap, subst, ◌∙◌, arith, inl, inr, ◌⊎◌}
 use Rattle.std.specs.Prelude.{slice_get}
-use Rattle.elastic_ast.specs.OperatorSorts.{Operator, Or, And, Equal, Differ, Less, AtMost, Greater, AtLeast, BitOr, BitXor, BitAnd, ShiftUp, ShiftDown, Plus, Minus, Join, Times, Turn, Negate, NoOperator, operators}
+use Rattle.elastic_ast.specs.OperatorSorts.{Operator, Greater, ShiftDown, NoOperator, operators}
 use Rattle.spelling.specs.Words.{Word}
 use Rattle.spelling.specs.Grammar.{IsSign, Begins, BeginTouching}
 use Rattle.spelling.proofs.Only.{begins_both}
@@ -25,25 +25,7 @@ is_shift_down _ = false
 found : (operator : Operator) → is_shift_down operator ≡ false → find_text (first_text operator) operators ≡ operator
 unfolding find_text is_shift_down
 found ShiftDown h = let e : true ≡ false = h in absurd cc
-found Or h = refl
-found And h = refl
-found Equal h = refl
-found Differ h = refl
-found Less h = refl
-found AtMost h = refl
-found Greater h = refl
-found AtLeast h = refl
-found BitOr h = refl
-found BitXor h = refl
-found BitAnd h = refl
-found ShiftUp h = refl
-found Plus h = refl
-found Minus h = refl
-found Join h = refl
-found Times h = refl
-found Turn h = refl
-found Negate h = refl
-found NoOperator h = refl
+found _ h = refl
 
 pub touching_first : (F G : Word → Type 0) (ws : List Word) → BeginTouching F G ws → Begins F ws
 touching_first F G [] b = b
@@ -53,24 +35,7 @@ touching_first F G (one ∷ other ∷ ws) b = b.0
 pub stands_text : (operator : Operator) (ws : List Word) → Stands operator ws → Begins (IsSign (first_text operator)) ws
 stands_text ShiftDown ws h = touching_first _ _ ws h
 stands_text NoOperator ws h = absurd h
-stands_text Or ws h = h
-stands_text And ws h = h
-stands_text Equal ws h = h
-stands_text Differ ws h = h
-stands_text Less ws h = h
-stands_text AtMost ws h = h
-stands_text Greater ws h = h
-stands_text AtLeast ws h = h
-stands_text BitOr ws h = h
-stands_text BitXor ws h = h
-stands_text BitAnd ws h = h
-stands_text ShiftUp ws h = h
-stands_text Plus ws h = h
-stands_text Minus ws h = h
-stands_text Join ws h = h
-stands_text Times ws h = h
-stands_text Turn ws h = h
-stands_text Negate ws h = h
+stands_text _ ws h = h
 
 -- an operator stands first, and a lone `>` isn't half of a shift
 pub record StandsAlone (operator : Operator) (ws : List Word) : Type 0 where
@@ -87,25 +52,7 @@ plain_same operator other ws p q f g =
 which_shift : (operator : Operator) → (operator ≡ ShiftDown) ⊎ (is_shift_down operator ≡ false)
 unfolding is_shift_down
 which_shift ShiftDown = inl refl
-which_shift Or = inr refl
-which_shift And = inr refl
-which_shift Equal = inr refl
-which_shift Differ = inr refl
-which_shift Less = inr refl
-which_shift AtMost = inr refl
-which_shift Greater = inr refl
-which_shift AtLeast = inr refl
-which_shift BitOr = inr refl
-which_shift BitXor = inr refl
-which_shift BitAnd = inr refl
-which_shift ShiftUp = inr refl
-which_shift Plus = inr refl
-which_shift Minus = inr refl
-which_shift Join = inr refl
-which_shift Times = inr refl
-which_shift Turn = inr refl
-which_shift Negate = inr refl
-which_shift NoOperator = inr refl
+which_shift _ = inr refl
 
 -- what stands where `>` does is `>`, unless it is a shift
 angle_is_greater : (operator : Operator) (ws : List Word) → is_shift_down operator ≡ false → Stands operator ws → Begins (IsSign (codes ">")) ws → operator ≡ Greater
@@ -150,7 +97,6 @@ code_from n (first ∷ more) c zero operator h = let same = ap code_of (some_sam
 code_from n (first ∷ more) c (suc code) operator h = let rec = code_from (n + 1) more c.1 code operator h in omega (arith, rec)
 
 pub code_is : (code : ℕ) (operator : Operator) → slice_get operators code ≡ Some operator → code_of operator ≡ code
-unfolding code_of
 code_is code operator h =
     let codes : CodesFrom 0 operators = (refl, (refl, (refl, (refl, (refl, (refl, (refl, (refl, (refl, (refl, (refl, (refl, (refl, (refl, (refl, (refl, (refl, (refl, (refl, tt))))))))))))))))))) in
     let is = code_from 0 operators codes code operator h in omega (arith, is)

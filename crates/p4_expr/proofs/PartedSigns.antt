@@ -2,7 +2,7 @@
 use Rattle.std.proofs.Common.{◌≡◌, ℕ, List, [], ◌∷◌, drop, take, sym, ap, ◌∙◌, arith}
 use Rattle.spelling.specs.Words.{Word}
 use Rattle.spelling.specs.Grammar.{One, Sign, TwoTouching}
-use Rattle.elastic_ast.specs.OperatorSorts.{Operator, Or, And, Equal, Differ, Less, AtMost, Greater, AtLeast, BitOr, BitXor, BitAnd, ShiftUp, ShiftDown, Plus, Minus, Join, Times, Turn, Negate, NoOperator}
+use Rattle.elastic_ast.specs.OperatorSorts.{Operator, ShiftDown, NoOperator}
 use Rattle.p4_expr.specs.Operators.{SpellsOperator}
 use Rattle.p4_expr.specs.Examples.{parted_shift}
 
@@ -25,21 +25,4 @@ not_sign text h = not_one _ _ _ h
 pub not_operator : (operator : Operator) → SpellsOperator operator (take 2 (drop 1 parted_shift)) → ⊥
 not_operator ShiftDown h = three_is_not_four (ends_there _ _ _ _ h)
 not_operator NoOperator h = absurd h
-not_operator Or h = not_sign _ h
-not_operator And h = not_sign _ h
-not_operator Equal h = not_sign _ h
-not_operator Differ h = not_sign _ h
-not_operator Less h = not_sign _ h
-not_operator AtMost h = not_sign _ h
-not_operator Greater h = not_sign _ h
-not_operator AtLeast h = not_sign _ h
-not_operator BitOr h = not_sign _ h
-not_operator BitXor h = not_sign _ h
-not_operator BitAnd h = not_sign _ h
-not_operator ShiftUp h = not_sign _ h
-not_operator Plus h = not_sign _ h
-not_operator Minus h = not_sign _ h
-not_operator Join h = not_sign _ h
-not_operator Times h = not_sign _ h
-not_operator Turn h = not_sign _ h
-not_operator Negate h = not_sign _ h
+not_operator _ h = not_sign _ h

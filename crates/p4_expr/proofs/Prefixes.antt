@@ -2,7 +2,7 @@
 use Rattle.std.proofs.Common.{◌≡◌, ℕ, zero, suc, ◌+◌, ◌≤◌, List, [], ◌∷◌, ◌++◌, codes, drop, refl, subst, arith, inl, inr}
 use Rattle.elastic_ast.specs.Tree.{PlainExpr}
 use Rattle.elastic_ast.specs.declared.statements.Amount.{Amount}
-use Rattle.elastic_ast.specs.OperatorSorts.{Operator, Or, And, Equal, Differ, Less, AtMost, Greater, AtLeast, BitOr, BitXor, BitAnd, ShiftUp, ShiftDown, Plus, Minus, Join, Times, Turn, Negate, NoOperator}
+use Rattle.elastic_ast.specs.OperatorSorts.{Operator, Turn, Negate, NoOperator}
 use Rattle.spelling.specs.Words.{Word}
 use Rattle.spelling.specs.Grammar.{Grammar, ◌⨟◌, IsSign, Begins}
 use Rattle.spelling.specs.Reading.{Takes, MayTake}
@@ -34,26 +34,10 @@ prefixed_cases P depth e {a = a} {c = c} m primary unary cast = by_derivation P 
 
 -- a primary expression begins with no prefix
 prefix_no_primary : (operator : Operator) (a : List Word) → level_of operator ≡ 0 → Stands operator a → Begins IsPrimaryStart a → ⊥
-prefix_no_primary Or a at s p = absurd (omega (arith, at))
-prefix_no_primary And a at s p = absurd (omega (arith, at))
-prefix_no_primary Equal a at s p = absurd (omega (arith, at))
-prefix_no_primary Differ a at s p = absurd (omega (arith, at))
-prefix_no_primary Less a at s p = absurd (omega (arith, at))
-prefix_no_primary AtMost a at s p = absurd (omega (arith, at))
-prefix_no_primary Greater a at s p = absurd (omega (arith, at))
-prefix_no_primary AtLeast a at s p = absurd (omega (arith, at))
-prefix_no_primary BitOr a at s p = absurd (omega (arith, at))
-prefix_no_primary BitXor a at s p = absurd (omega (arith, at))
-prefix_no_primary BitAnd a at s p = absurd (omega (arith, at))
-prefix_no_primary ShiftUp a at s p = absurd (omega (arith, at))
-prefix_no_primary ShiftDown a at s p = absurd (omega (arith, at))
-prefix_no_primary Plus a at s p = absurd (omega (arith, at))
-prefix_no_primary Minus a at s p = absurd (omega (arith, at))
-prefix_no_primary Join a at s p = absurd (omega (arith, at))
-prefix_no_primary Times a at s p = absurd (omega (arith, at))
 prefix_no_primary Turn a at s p = never_both a (λ word is start. start.no_turn is) s p
 prefix_no_primary Negate a at s p = never_both a (λ word is start. start.no_negate is) s p
 prefix_no_primary NoOperator a at s p = s
+prefix_no_primary _ a at s p = absurd (omega (arith, at))
 
 cast_begins : (depth width : ℕ) {Q : Grammar} {a c : List Word} → MayTake (SpellsCast depth width ⨟ Q) a c → Begins (IsSign (codes "(")) a
 cast_begins depth width m = begins_bracketed _ _ depth _ (split m).first
@@ -106,7 +90,7 @@ primary_no_cast : (depth : ℕ) (e : PlainExpr) {a c : List Word} → MayTake (S
 primary_no_cast depth e {a = a} m s =
     let p = primary_ahead depth e m in
     let b = split p.ahead in
-    base_no_cast depth p.base b.first.front a b.between b.first.joined b.first.spelled s
+    base_no_cast depth p.first b.first.front a b.between b.first.joined b.first.spelled s
 
 -- where neither a prefix nor a cast stands
 pub no_prefix : (depth : ℕ) (e : PlainExpr) {a c : List Word} → MayTake (SpellsPrefixed depth e) a c → NoneStands 0 a → (StandsCast a → ⊥) → MayTake (SpellsPrimary depth e) a c

@@ -2,10 +2,9 @@
 use Rattle.std.proofs.Common.{◌≡◌, ℕ, List, sym, subst}
 use Rattle.elastic_ast.specs.Tree.{PlainExpr}
 use Rattle.spelling.specs.Words.{Word}
-use Rattle.spelling.specs.Reading.{Takes, MayTake, WantsOr}
+use Rattle.spelling.specs.Reading.{MayTake, WantsOr}
 use Rattle.spelling.specs.declared.error.SyntaxError.{SyntaxError}
 use Rattle.spelling.specs.declared.error.SyntaxError.TheVariants as error
-use Rattle.spelling.proofs.Taking.{takes_as}
 use Rattle.p4_expr.specs.Expressions.{SpellsLevel, SpellsPrefixed}
 use Rattle.p4_expr.specs.Bases.{form_of}
 use Rattle.p4_expr.specs.declared.forms.Form.TheVariants as form
@@ -15,16 +14,8 @@ too_deep_or Few e at is many = subst (WantsOr Few) (sym is) many
 
 -- what is spelled by words of its own has no form of brackets
 pub none_bracketed : (e : PlainExpr) → form.Bracketed ≡ form_of e → ⊥
-none_bracketed (PlainExpr.Num width value) is = let clash : form.Bracketed ≡ form.Number = is in cc
-none_bracketed (PlainExpr.Truth which) is = let clash : form.Bracketed ≡ form.Truth = is in cc
-none_bracketed (PlainExpr.Named name) is = let clash : form.Bracketed ≡ form.Name = is in cc
-none_bracketed (PlainExpr.At lval) is = let clash : form.Bracketed ≡ form.Place = is in cc
-none_bracketed (PlainExpr.IsValid header) is = let clash : form.Bracketed ≡ form.Validity = is in cc
-none_bracketed (PlainExpr.Unary op of) is = let clash : form.Bracketed ≡ form.Other = is in cc
-none_bracketed (PlainExpr.Binary op left right) is = let clash : form.Bracketed ≡ form.Other = is in cc
-none_bracketed (PlainExpr.Cast width of) is = let clash : form.Bracketed ≡ form.Other = is in cc
-none_bracketed (PlainExpr.Slice of high low) is = let clash : form.Bracketed ≡ form.Other = is in cc
-none_bracketed (PlainExpr.Hash number of modulus) is = let clash : form.Bracketed ≡ form.Hash = is in cc
+none_bracketed (PlainExpr.Num width value) is = cc
+none_bracketed _ is = cc
 
 pub hash_not_bracketed : form.Hash ≡ form.Bracketed → ⊥
 hash_not_bracketed is = cc
@@ -33,9 +24,6 @@ level_zero : {depth : ℕ} {e : PlainExpr} {ws : List Word} → SpellsLevel dept
 level_zero (SpellsLevel.prefixed h) = h
 
 -- at level 0
-pub zero_taken : (depth level : ℕ) (e : PlainExpr) {a b : List Word} → level ≡ 0 → Takes (SpellsPrefixed depth e) a b → Takes (SpellsLevel depth level e) a b
-zero_taken depth level e {a = a} {b = b} is t = subst (λ l. Takes (SpellsLevel depth l e) a b) (sym is) (takes_as (λ ws h. SpellsLevel.prefixed h) t)
-
 zero_may : (depth : ℕ) (e : PlainExpr) {a b : List Word} → MayTake (SpellsLevel depth 0 e) a b → MayTake (SpellsPrefixed depth e) a b
 zero_may depth e m = record { front = m.front; joined = m.joined; spelled = level_zero m.spelled }
 

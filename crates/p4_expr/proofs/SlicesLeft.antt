@@ -1,67 +1,45 @@
 -- Reading the slices behind a primary expression one by one.
-use Rattle.std.proofs.Common.{◌≡◌, ℕ, zero, suc, ◌+◌, ◌≤◌, List, [], ◌∷◌, ◌++◌, codes, drop, refl, sym, ap, subst, ◌∙◌, arith, append_assoc, inl, inr, IsTrue}
+use Rattle.std.proofs.Common.{◌≡◌, ℕ, zero, suc, ◌+◌, ◌≤◌, List, [], ◌∷◌, ◌++◌, codes, drop, Ok, refl, sym, ap, subst, ◌∙◌, arith, append_assoc, inl, inr, IsTrue}
+use Rattle.elastic_ast.specs.declared.statements.Expr.{Expr}
+use Rattle.elastic_ast.specs.Seen.{seen_expr}
 use Rattle.elastic_ast.specs.Tree.{PlainExpr}
+use Rattle.p4_expr.specs.Readings.{Anything, ReadsCounted}
+use Rattle.spelling.specs.Readers.{ReadsLine, itself}
+use Rattle.spelling.specs.declared.reader.Reader.{Reader}
 use Rattle.spelling.specs.Words.{Word}
-use Rattle.spelling.specs.Grammar.{Grammar, ◌⨟◌, Each, IsSign, Begins, IsNum, is_number}
-use Rattle.spelling.specs.Reading.{Takes, MayTake}
-use Rattle.spelling.proofs.Only.{begins_bracketed, begins_first, behind_first, empty_same, no_sign, of_where, split}
+use Rattle.spelling.specs.Grammar.{Grammar, ◌⨟◌, IsSign, Begins, IsNum, is_number}
+use Rattle.spelling.specs.Reading.{Takes, MayTake, ahead}
+use Rattle.spelling.proofs.Only.{begins_bracketed, begins_first, behind_first, no_sign, of_where, split}
 use Rattle.spelling.proofs.Taking.{takes_both}
 use Rattle.p4_expr.specs.Parts.{SpellsBitRange, SpellsSlice}
 use Rattle.p4_expr.specs.Expressions.{SpellsPrimary}
 use Rattle.p4_expr.specs.Operators.{operators_in}
 use Rattle.p4_expr.specs.Bases.{SpellsOwn, SpellsInBrackets, SpellsBase}
 use Rattle.p4_expr.specs.Standing.{EndsBase, EndsLevel, StandsSlice}
-use Rattle.p4_expr.proofs.Slices.{Bits, primary_parts, sliced}
+use Rattle.p4_expr.proofs.LeftGrown.{GrownAhead, grown_ahead, grown_few}
+use Rattle.p4_expr.proofs.Longest.{AllRead, NextOne, Parts, StillAhead, all_read, as_long, goes_on, next_one, part_read}
+use Rattle.p4_expr.proofs.Slices.{Bits, primary_parts, put_slice}
 
 -- a base, and what stands behind it
-pub record PrimaryAhead (depth : ℕ) (e : PlainExpr) (a c : List Word) : Type 0 where
-  pub base : PlainExpr
-  pub slices : List Bits
-  pub whole : e ≡ sliced base slices
-  pub ahead : MayTake (SpellsBase depth base ⨟ Each (SpellsSlice depth) slices) a c
-
-pub primary_ahead : (depth : ℕ) (e : PlainExpr) {a c : List Word} → MayTake (SpellsPrimary depth e) a c → PrimaryAhead depth e a c
-primary_ahead depth e m =
-    let p = primary_parts m.spelled in
-    record { base = p.base; slices = p.slices; whole = p.whole; ahead = record { front = m.front; joined = m.joined; spelled = p.spelled } }
+pub primary_ahead : (depth : ℕ) (e : PlainExpr) {a c : List Word} → MayTake (SpellsPrimary depth e) a c → GrownAhead put_slice (SpellsBase depth) (SpellsSlice depth) e a c
+primary_ahead depth e m = grown_ahead (λ ws h. primary_parts h) m
 
 -- the slices after those that are read stand ahead
-pub record SlicesLeft (depth : ℕ) (now e : PlainExpr) (a c : List Word) : Type 0 where
-  pub slices : List Bits
-  pub whole : e ≡ sliced now slices
-  pub ahead : MayTake (Each (SpellsSlice depth) slices) a c
+abbrev pub SlicesLeft : (depth : ℕ) (now e : PlainExpr) (a c : List Word) → Type 0
+SlicesLeft depth now e a c = StillAhead put_slice (SpellsSlice depth) (EndsLevel 0) now e a c
 
--- the same where at least one is left
-pub record NextSlice (depth : ℕ) (now e : PlainExpr) (a c : List Word) : Type 0 where
-  pub high : ℕ
-  pub low : ℕ
-  pub later : List Bits
-  pub whole : e ≡ sliced (PlainExpr.Slice now high low) later
-  pub ahead : MayTake (SpellsBitRange depth high low ⨟ Each (SpellsSlice depth) later) a c
-
-pub slice_begins : (depth : ℕ) (bits : Bits) {Q : Grammar} {a c : List Word} → MayTake (SpellsSlice depth bits ⨟ Q) a c → Begins (IsSign (codes "[")) a
+slice_begins : (depth : ℕ) (bits : Bits) {Q : Grammar} {a c : List Word} → MayTake (SpellsSlice depth bits ⨟ Q) a c → Begins (IsSign (codes "[")) a
 slice_begins depth bits m = begins_bracketed _ _ depth _ (of_where (split m).first)
-
-next_of : (depth : ℕ) (now e : PlainExpr) (slices : List Bits) {a c : List Word} → e ≡ sliced now slices → MayTake (Each (SpellsSlice depth) slices) a c → (a ≡ c → ⊥) → NextSlice depth now e a c
-next_of depth now e [] whole m more = absurd (more (empty_same m))
-next_of depth now e (bits ∷ later) whole m more = record { high = bits.0; low = bits.1; later = later; whole = whole; ahead = m }
-
--- where a bracket opens, which nothing behind the whole does
-pub next_slice : (depth : ℕ) (now e : PlainExpr) {a c : List Word} → SlicesLeft depth now e a c → Begins (IsSign (codes "[")) a → (Begins (IsSign (codes "[")) c → ⊥) → NextSlice depth now e a c
-next_slice depth now e l at none = next_of depth now e l.slices l.whole l.ahead (λ same. none (subst (Begins (IsSign (codes "["))) same at))
-
--- what is read has no more operators than the whole
-sliced_count : (now : PlainExpr) (slices : List Bits) → operators_in now ≤ operators_in (sliced now slices)
-unfolding operators_in
-sliced_count now [] = omega arith
-sliced_count now (bits ∷ later) = let rec = sliced_count (PlainExpr.Slice now bits.0 bits.1) later in omega (arith, rec)
-
-pub sliced_within : (now e : PlainExpr) (slices : List Bits) (most : ℕ) → e ≡ sliced now slices → operators_in e ≤ most → operators_in now ≤ most
-sliced_within now e slices most whole few = let c = sliced_count now slices in let same = ap operators_in whole in omega (arith, c, same, few)
 
 pub slice_count : (of : PlainExpr) (high low : ℕ) → operators_in (PlainExpr.Slice of high low) ≡ operators_in of + 1
 unfolding operators_in
 slice_count of high low = refl
+
+slice_adds : (e : PlainExpr) (bits : Bits) → operators_in e ≤ operators_in (put_slice e bits)
+slice_adds e bits = omega (arith, slice_count e bits.0 bits.1)
+
+pub base_few : (depth : ℕ) {e : PlainExpr} {a c : List Word} (most : ℕ) (p : GrownAhead put_slice (SpellsBase depth) (SpellsSlice depth) e a c) → operators_in e ≤ most → operators_in p.first ≤ most
+base_few depth {e = e} most p used = grown_few put_slice p.first e p.later most slice_adds p.whole used
 
 numbered : (value : ℕ) (ws : List Word) → Begins (IsNum value) ws → Begins (λ word. IsTrue (is_number word.kind)) ws
 numbered value [] b = b
@@ -75,26 +53,47 @@ range_number (suc depth) high low {a = a} m =
     let begin = begins_first (split inner).first in
     numbered high (drop 1 a) begin
 
-none_of : (depth : ℕ) (now e : PlainExpr) (slices : List Bits) {a c : List Word} → e ≡ sliced now slices → MayTake (Each (SpellsSlice depth) slices) a c → (StandsSlice a → ⊥) → (now ≡ e) × (a ≡ c)
-none_of depth now e [] whole m none = (sym whole, empty_same m)
-none_of depth now e (bits ∷ later) whole m none = absurd (none (slice_begins depth bits m, range_number depth bits.0 bits.1 m))
-
--- where none goes on, all are read
-pub no_slice : (depth : ℕ) (now e : PlainExpr) {a c : List Word} → SlicesLeft depth now e a c → (StandsSlice a → ⊥) → (now ≡ e) × (a ≡ c)
-no_slice depth now e l none = none_of depth now e l.slices l.whole l.ahead none
+stands_slice : (depth : ℕ) (bits : Bits) {Q : Grammar} {a c : List Word} → MayTake (SpellsSlice depth bits ⨟ Q) a c → StandsSlice a
+stands_slice depth bits m = (slice_begins depth bits m, range_number depth bits.0 bits.1 m)
 
 -- behind a base only a slice may go on
-pub ends_base : (depth : ℕ) (slices : List Bits) {a c : List Word} → MayTake (Each (SpellsSlice depth) slices) a c → EndsLevel 0 c → EndsBase a
-ends_base depth [] m ends = let same = empty_same m in record {
-  index = λ b. absurd (ends.slice (subst (Begins (IsSign (codes "["))) same b));
-  place = λ b. ends.place (subst (Begins (IsSign (codes "."))) same b);
-  call = λ b. ends.call (subst (Begins (IsSign (codes "("))) same b);
+ends_before_slice : (depth : ℕ) (bits : Bits) {Q : Grammar} {a c : List Word} → MayTake (SpellsSlice depth bits ⨟ Q) a c → EndsBase a
+ends_before_slice depth bits {a = a} m = let at = stands_slice depth bits m in record {
+  index = λ b. at.1;
+  place = λ b. no_sign (codes "[") (codes ".") a refl at.0 b;
+  call = λ b. no_sign (codes "[") (codes "(") a refl at.0 b;
 }
-ends_base depth (bits ∷ later) {a = a} m ends = let at = slice_begins depth bits m in record {
-  index = λ b. range_number depth bits.0 bits.1 m;
-  place = λ b. no_sign (codes "[") (codes ".") a refl at b;
-  call = λ b. no_sign (codes "[") (codes "(") a refl at b;
+
+pub slice_parts : (depth : ℕ) → Parts (SpellsSlice depth) EndsBase (EndsLevel 0)
+slice_parts depth = record {
+  whole = λ ws ends. record { index = λ b. absurd (ends.slice b); place = ends.place; call = ends.call };
+  before = λ bits later a c m. ends_before_slice depth bits m;
 }
+
+-- where a slice goes on, which nothing behind the whole does
+slice_end : {a c : List Word} → StandsSlice a → a ≡ c → EndsLevel 0 c → ⊥
+slice_end at same ends = ends.slice (subst (Begins (IsSign (codes "["))) same at.0)
+
+pub next_slice : (depth : ℕ) {now e : PlainExpr} {a c : List Word} → SlicesLeft depth now e a c → StandsSlice a → EndsLevel 0 c → NextOne put_slice (SpellsSlice depth) now e a c
+next_slice depth still at ends = next_one still ends (slice_end at)
+
+pub slice_few : (depth : ℕ) {now e : PlainExpr} {a c : List Word} (most : ℕ) (n : NextOne put_slice (SpellsSlice depth) now e a c) → operators_in e ≤ most → operators_in now + 1 ≤ most
+slice_few depth {now = now} {e = e} most n used = omega (arith, grown_few put_slice (put_slice now n.one) e n.later most slice_adds n.whole used, slice_count now n.one.0 n.one.1)
+
+-- the base, and one more slice
+pub base_read : {depth left fewer : ℕ} {before after : Reader} {e : Expr} → ReadsCounted EndsBase Anything SpellsBase depth left before after (Ok (e, fewer)) → (more : ℕ) (x : PlainExpr) (rest : List Word) → MayTake (SpellsPrimary more x) (ahead before) rest → SlicesLeft more (seen_expr e) x (ahead after) rest
+base_read {e = e} r more x rest m =
+    let p = primary_ahead more x m in
+    part_read (slice_parts more) (SpellsBase more) (λ y. y) p.first (seen_expr e) p.later refl p.whole p.ahead (r.longest more p.first) (r.only more p.first)
+
+pub slice_read : {depth : ℕ} {before after : Reader} {bits : Bits} {now then : PlainExpr} → StandsSlice (ahead before) → ReadsLine SpellsSlice itself depth before after (Ok bits) → then ≡ put_slice now bits → (more : ℕ) (x : PlainExpr) (rest : List Word) → SlicesLeft more now x (ahead before) rest → SlicesLeft more then x (ahead after) rest
+slice_read {bits = bits} {now = now} at r made more x rest still =
+    goes_on still r.taken.fewer (slice_end at) (λ one later whole m.
+    part_read (slice_parts more) (SpellsSlice more) (put_slice now) one bits later made whole m (λ rest f. as_long (r.only more one rest f).1) (λ rest f ends. r.only more one rest f))
+
+-- where none goes on, all are read
+pub no_slice : (depth : ℕ) {now e : PlainExpr} {a c : List Word} → SlicesLeft depth now e a c → (StandsSlice a → ⊥) → AllRead (EndsLevel 0) now e a c
+no_slice depth still none = all_read still (λ bits later m. none (stands_slice depth bits m))
 
 -- a base is a primary expression
 own_primary : (depth : ℕ) (e : PlainExpr) (ws : List Word) → SpellsOwn depth e ws → SpellsPrimary depth e ws
@@ -103,10 +102,6 @@ own_primary depth (PlainExpr.Truth which) ws h = SpellsPrimary.truth h
 own_primary depth (PlainExpr.Named name) ws h = SpellsPrimary.name h
 own_primary depth (PlainExpr.At lval) ws h = SpellsPrimary.place h
 own_primary depth (PlainExpr.IsValid header) ws h = SpellsPrimary.is_valid h
-own_primary depth (PlainExpr.Unary op of) ws h = absurd h
-own_primary depth (PlainExpr.Binary op left right) ws h = absurd h
-own_primary depth (PlainExpr.Cast width of) ws h = absurd h
-own_primary depth (PlainExpr.Slice of high low) ws h = absurd h
 own_primary zero (PlainExpr.Hash number of modulus) ws h = absurd h.second
 own_primary (suc depth) (PlainExpr.Hash number of modulus) ws h =
     let b = h.second in
@@ -118,6 +113,7 @@ own_primary (suc depth) (PlainExpr.Hash number of modulus) ws h =
     ∙ ap (λ l. h.front ++ l) (b.joined ∙ ap (λ l. b.front ++ l) (i.joined ∙ ap (λ l. l ++ i.back) (p.joined ∙ ap (λ l. p.front ++ l) q.joined ∙ sym (append_assoc p.front q.front q.back))))
     ∙ sym (append_assoc h.front b.front ((p.front ++ q.front ++ q.back) ++ i.back))
     ∙ sym (append_assoc (h.front ++ b.front) (p.front ++ q.front ++ q.back) i.back))
+own_primary depth _ ws h = absurd h
 
 brackets_primary : (depth : ℕ) (e : PlainExpr) (ws : List Word) → SpellsInBrackets depth e ws → SpellsPrimary depth e ws
 brackets_primary zero e ws h = absurd h

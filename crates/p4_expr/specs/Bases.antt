@@ -1,7 +1,7 @@
 -- A primary expression without the slices behind it, by its form; this project's own.
-use Rattle.std.specs.Prelude.{ℕ, codes}
+use Rattle.std.specs.Prelude.{◌≡◌, ℕ, codes}
 use Rattle.elastic_ast.specs.Tree.{PlainExpr}
-use Rattle.spelling.specs.Grammar.{Grammar, Nothing, Either, ◌⨟◌, Sign, Named, Bracketed}
+use Rattle.spelling.specs.Grammar.{Grammar, Nothing, Either, ◌⨟◌, Sign, Named, Bracketed, Where}
 use Rattle.p4_expr.specs.Parts.{SpellsNumber, SpellsTruth, SpellsAmount, SpellsLval, SpellsIsValid}
 use Rattle.p4_expr.specs.Expressions.{SpellsExpr}
 use Rattle.p4_expr.specs.declared.forms.Form.{Form}
@@ -21,13 +21,6 @@ SpellsOwn depth (PlainExpr.Slice of high low) = Nothing
 SpellsOwn depth (PlainExpr.Hash number of modulus) =
     Named (codes "hash") ⨟ Bracketed (codes "(") (codes ")") depth (λ inner. (SpellsAmount number ⨟ Sign (codes ",")) ⨟ SpellsExpr inner of ⨟ Sign (codes ",") ⨟ SpellsAmount modulus)
 
--- any expression in brackets
-abbrev pub SpellsInBrackets : ℕ → PlainExpr → Grammar
-SpellsInBrackets depth e = Bracketed (codes "(") (codes ")") depth (λ inner. SpellsExpr inner e)
-
-abbrev pub SpellsBase : ℕ → PlainExpr → Grammar
-SpellsBase depth e = Either (SpellsOwn depth e) (SpellsInBrackets depth e)
-
 -- the form of what is spelled by words of its own
 abbrev pub form_of : PlainExpr → Form
 form_of (PlainExpr.Num width value) = form.Number
@@ -40,3 +33,14 @@ form_of (PlainExpr.Binary op left right) = form.Other
 form_of (PlainExpr.Cast width of) = form.Other
 form_of (PlainExpr.Slice of high low) = form.Other
 form_of (PlainExpr.Hash number of modulus) = form.Hash
+
+-- a hash
+abbrev pub SpellsHash : ℕ → PlainExpr → Grammar
+SpellsHash depth e = Where (form.Hash ≡ form_of e) (SpellsOwn depth e)
+
+-- any expression in brackets
+abbrev pub SpellsInBrackets : ℕ → PlainExpr → Grammar
+SpellsInBrackets depth e = Bracketed (codes "(") (codes ")") depth (λ inner. SpellsExpr inner e)
+
+abbrev pub SpellsBase : ℕ → PlainExpr → Grammar
+SpellsBase depth e = Either (SpellsOwn depth e) (SpellsInBrackets depth e)

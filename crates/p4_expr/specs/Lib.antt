@@ -8,4 +8,5 @@ pub mod Bases
 pub mod ExprAt
 pub mod Passing
 pub mod Readings
+pub mod FormsAhead
 pub mod Laws

@@ -1,6 +1,6 @@
 -- The parts of expressions and statements that have no expression in them, in the manner of the grammar of the P4-16
 -- language specification 1.2.3; this project's own.
-use Rattle.std.specs.Prelude.{◌≡◌, ℕ, ◌<◌, ◌^◌, Bool, true, false, List, Option, None, Some, Result, codes}
+use Rattle.std.specs.Prelude.{◌≡◌, ℕ, ◌<◌, ◌≤◌, ◌^◌, Bool, true, false, List, length, Option, None, Some, Result, IfOk, IfErr, codes}
 use Rattle.p4_lexer.specs.declared.token.Kind.TheVariants as kind
 use Rattle.elastic_ast.specs.declared.statements.Amount.{Amount}
 use Rattle.elastic_ast.specs.declared.statements.Amount.TheVariants as amount
@@ -8,7 +8,9 @@ use Rattle.elastic_ast.specs.declared.statements.Lval.{Lval}
 use Rattle.elastic_ast.specs.declared.statements.Lval.TheVariants as lval
 use Rattle.elastic_ast.specs.declared.statements.RegRef.{RegRef}
 use Rattle.spelling.specs.Words.{Word}
-use Rattle.spelling.specs.Readers.{ReadsLineMade, itself}
+use Rattle.spelling.specs.Bounds.{IfTooDeep, Line, OpensNext, Stops}
+use Rattle.spelling.specs.Reading.{ahead, IsReading, MayTake, Takes}
+use Rattle.spelling.specs.Readers.{itself}
 use Rattle.spelling.specs.declared.error.SyntaxError.{SyntaxError}
 use Rattle.spelling.specs.declared.reader.Reader.{Reader}
 use Rattle.p4_expr.specs.GoesOn.{EndsIndex}
@@ -89,17 +91,29 @@ SpellsSlice depth range = SpellsBitRange depth range.0 range.1
 abbrev pub SpellsCast : ℕ → ℕ → Grammar
 SpellsCast depth width = Bracketed (codes "(") (codes ")") depth (λ _. SpellsBits width)
 
+-- A reader of what an index may end, of all things or of those that are made of some: it reads what is spelled where no index goes
+-- on behind it, and anywhere no less than is spelled.
+pub record ReadsToIndex {A I : Type 0} (Taken : Grammar → List Word → List Word → Type 0) (Of : ℕ → A → Grammar) (made : I → A) (depth : ℕ) (before after : Reader) (result : Result A SyntaxError) : Type 0 where
+  pub taken : IfOk result (λ read. Taken (Of depth read) (ahead before) (ahead after))
+  pub only : (more : ℕ) (of : I) (rest : List Word) → MayTake (Of more (made of)) (ahead before) rest → EndsIndex rest → IsReading (more ≤ depth) itself (made of) rest (ahead after) result
+  pub longest : IfOk result (λ _. (more : ℕ) (of : I) (rest : List Word) → MayTake (Of more (made of)) (ahead before) rest → length (ahead after) ≤ length rest)
+  pub deep : IfErr result (IfTooDeep (Stops (Line depth) OpensNext (ahead before) (ahead after)))
+
+abbrev pub ReadsIndex : ℕ → Reader → Reader → Result (Option (List ℕ)) SyntaxError → Type 0
+ReadsIndex depth before after result = ReadsToIndex MayTake SpellsIndex itself depth before after result
+
 -- a reader of one form of place
 abbrev pub ReadsPlace : {I : Type 0} → (I → Lval) → ℕ → Reader → Reader → Result Lval SyntaxError → Type 0
-ReadsPlace made depth before after result = ReadsLineMade EndsIndex SpellsLval itself made depth before after result
+ReadsPlace made depth before after result = ReadsToIndex Takes SpellsLval made depth before after result
 
 -- '(' ')' stands for nothing
 abbrev pub SpellsCallEnd : ℕ → Unit {0} → Grammar
 SpellsCallEnd depth none = SpellsNoArguments depth
 
--- NUMBER ',' of a hash, and ',' MODULUS
-abbrev pub SpellsHashNumber : Amount → Grammar
-SpellsHashNumber number = SpellsAmount number ⨟ Sign (codes ",")
+-- an amount and a sign behind it
+abbrev pub SpellsAmountBefore : List ℕ → Amount → Grammar
+SpellsAmountBefore sign amount = SpellsAmount amount ⨟ Sign sign
 
-abbrev pub SpellsHashModulus : Amount → Grammar
-SpellsHashModulus modulus = Sign (codes ",") ⨟ SpellsAmount modulus
+-- ',' MODULUS ')' of a hash
+abbrev pub SpellsHashEnd : Amount → Grammar
+SpellsHashEnd modulus = Sign (codes ",") ⨟ SpellsAmountBefore (codes ")") modulus

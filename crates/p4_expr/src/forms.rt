@@ -1,9 +1,9 @@
 //! The forms of primary expressions, by the words that begin them.
 
-ghost use Rattle.std.specs.Prelude.{◌≡◌, ◌↔◌, IsTrue};
+ghost use Rattle.std.specs.Prelude.{◌↔◌, IsTrue};
 ghost use Rattle.spelling.specs.Reading.{ahead};
-ghost use Rattle.p4_expr.specs.Readings.{BeginsName, BeginsTest, TellsBrackets, TellsOwn};
-ghost use Rattle.p4_expr.specs.Readings.{TellsOwnWhere};
+ghost use Rattle.p4_expr.specs.FormsAhead.{TellsForm};
+ghost use Rattle.p4_expr.specs.Readings.{BeginsName};
 ghost use Rattle.p4_expr.specs.Standing.{StandsCast, StandsHash, StandsSlice, StandsTest};
 
 use spelling::Reader;
@@ -23,10 +23,7 @@ pub enum Form {
 
 /// The form of the primary expression that may stand next; Other where none does.
 pub fn form_ahead(reader: &Reader<'_>) -> Form
-    ensures own { TellsOwn (ahead reader.now) result }
-    ensures bracketed { TellsBrackets (ahead reader.now) result }
-    ensures hash { result ≡ Form.Hash → StandsHash (ahead reader.now) }
-    ensures test { result ≡ Form.Validity → BeginsTest (ahead reader.now) }
+    ensures { TellsForm (ahead reader.now) result }
 {
     if reader.is_at_any_name() {
         return name_form(reader);
@@ -48,9 +45,7 @@ pub fn form_ahead(reader: &Reader<'_>) -> Form
 
 /// The form of what begins with the name that stands next.
 fn name_form(reader: &Reader<'_>) -> Form
-    ensures own { TellsOwnWhere BeginsName (ahead reader.now) result }
-    ensures hash { result ≡ Form.Hash → StandsHash (ahead reader.now) }
-    ensures test { result ≡ Form.Validity → BeginsTest (ahead reader.now) }
+    ensures { BeginsName (ahead reader.now) → TellsForm (ahead reader.now) result }
 {
     if is_at_hash(reader) {
         return Form::Hash;

@@ -33,6 +33,7 @@ macro_rules! by_level {
 }
 
 /// Goes over an operator of a level where one stands next, and gives its code. Else the reader stays.
+#[tactic(auto, using(crate::proofs::OperatorSigns::passes, crate::proofs::OperatorSigns::stayed))]
 pub fn operator(reader: &mut Reader<'_>, level: u8) -> Option<u16>
     ensures taken { PassesOperator level reader.old reader.new result }
     ensures left { result ≡ None → reader.new ≡ reader.old }

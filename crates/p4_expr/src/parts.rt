@@ -5,19 +5,18 @@ ghost use Rattle.elastic_ast.specs.declared.statements.Lval.TheVariants as Lval;
 ghost use Rattle.spelling.specs.Grammar.{Begins, IsSign, Named};
 ghost use Rattle.spelling.specs.Reading.{ahead};
 ghost use Rattle.spelling.specs.Readers.{InSquare, itself, Reads, ReadsLine, ReadsLineBefore};
-ghost use Rattle.spelling.specs.Readers.{ReadsLineUpTo};
 ghost use Rattle.p4_expr.specs.GoesOn.{BeginsNumber, EndsIndex};
 ghost use Rattle.p4_expr.specs.Parts.{SpellsAmount, SpellsAnyNumber, SpellsBits, SpellsHeader};
-ghost use Rattle.p4_expr.specs.Parts.{SpellsCallEnd, SpellsIndex, SpellsLval, SpellsRegister};
-ghost use Rattle.p4_expr.specs.Parts.{ReadsPlace, a_header_place, a_meta_place};
+ghost use Rattle.p4_expr.specs.Parts.{ReadsIndex, ReadsPlace, SpellsCallEnd, SpellsRegister};
+ghost use Rattle.p4_expr.specs.Parts.{a_header_place, a_meta_place};
 
 use elastic_ast::{Amount, Lval, RegRef};
 use elx_bits::Name;
-use spelling::{Reader, SyntaxError, in_brackets};
+use spelling::{Parsed, Reader, in_brackets};
 use std::alloc::Global;
 
 /// Reads a number, and its width where it has one. NotProgram where the next token is none.
-pub fn number(reader: &mut Reader<'_>) -> Result<(Option<u8>, u128), SyntaxError>
+pub fn number(reader: &mut Reader<'_>) -> Parsed<(Option<u8>, u128)>
     ensures { Reads SpellsAnyNumber itself reader.old reader.new result }
 {
     let (width, value) = reader.any_number()?;
@@ -25,7 +24,7 @@ pub fn number(reader: &mut Reader<'_>) -> Result<(Option<u8>, u128), SyntaxError
 }
 
 /// `bit<WIDTH>`: its width. NotProgram where something else follows, or the width is above 255.
-pub fn bits(reader: &mut Reader<'_>) -> Result<u8, SyntaxError>
+pub fn bits(reader: &mut Reader<'_>) -> Parsed<u8>
     ensures { Reads SpellsBits itself reader.old reader.new result }
 {
     reader.reserved(b"bit")?;
@@ -37,7 +36,7 @@ pub fn bits(reader: &mut Reader<'_>) -> Result<u8, SyntaxError>
 
 /// Reads a number without a width or the name of a symbol or an index. NotProgram where neither follows, or the number is
 /// above 4294967295.
-pub fn amount(alloc: Global, reader: &mut Reader<'_>) -> Result<Amount, SyntaxError>
+pub fn amount(alloc: Global, reader: &mut Reader<'_>) -> Parsed<Amount>
     ensures { Reads SpellsAmount itself reader.old reader.new result }
 {
     if !reader.is_at_number() {
@@ -50,12 +49,8 @@ pub fn amount(alloc: Global, reader: &mut Reader<'_>) -> Result<Amount, SyntaxEr
 
 /// `[NAME]`, where it is there: not where no bracket follows, or one with a number behind it, which begins a slice. `depth` is
 /// how many brackets may be open from here on. TooDeep names the bracket where none may.
-pub fn index(
-    alloc: Global,
-    reader: &mut Reader<'_>,
-    depth: u32,
-) -> Result<Option<Name>, SyntaxError>
-    ensures { ReadsLineUpTo EndsIndex SpellsIndex itself depth reader.old reader.new result }
+pub fn index(alloc: Global, reader: &mut Reader<'_>, depth: u32) -> Parsed<Option<Name>>
+    ensures { ReadsIndex depth reader.old reader.new result }
 {
     if !is_at_index(reader) {
         return Ok(None);
@@ -65,14 +60,14 @@ pub fn index(
 }
 
 /// `[NAME]`
-fn index_name(alloc: Global, reader: &mut Reader<'_>, depth: u32) -> Result<Name, SyntaxError>
+fn index_name(alloc: Global, reader: &mut Reader<'_>, depth: u32) -> Parsed<Name>
     ensures { ReadsLine (InSquare (λ _. Named)) itself depth reader.old reader.new result }
 {
     in_brackets(reader, b"[", b"]", depth, |reader, _| reader.name(alloc))
 }
 
 /// `hdr.NAME`: the name of the header.
-pub fn header(alloc: Global, reader: &mut Reader<'_>) -> Result<Name, SyntaxError>
+pub fn header(alloc: Global, reader: &mut Reader<'_>) -> Parsed<Name>
     ensures { Reads SpellsHeader itself reader.old reader.new result }
 {
     reader.fixed_name(b"hdr")?;
@@ -82,7 +77,7 @@ pub fn header(alloc: Global, reader: &mut Reader<'_>) -> Result<Name, SyntaxErro
 }
 
 /// `()`. `depth` is how many brackets may be open from here on.
-pub fn no_arguments(reader: &mut Reader<'_>, depth: u32) -> Result<(), SyntaxError>
+pub fn no_arguments(reader: &mut Reader<'_>, depth: u32) -> Parsed<()>
     ensures { ReadsLine SpellsCallEnd itself depth reader.old reader.new result }
 {
     let _inner = reader.open(b"(", depth)?;
@@ -92,8 +87,8 @@ pub fn no_arguments(reader: &mut Reader<'_>, depth: u32) -> Result<(), SyntaxErr
 
 /// Reads a place that a statement may assign to: `hdr.HEADER.FIELD`, `meta.NAME`, `meta.NAME[INDEX]` or `std.NAME`. `depth` is
 /// how many brackets may be open from here on.
-pub fn lval(alloc: Global, reader: &mut Reader<'_>, depth: u32) -> Result<Lval, SyntaxError>
-    ensures { ReadsLineBefore EndsIndex SpellsLval itself depth reader.old reader.new result }
+pub fn lval(alloc: Global, reader: &mut Reader<'_>, depth: u32) -> Parsed<Lval>
+    ensures { ReadsPlace itself depth reader.old reader.new result }
 {
     if reader.is_at_name(b"meta") {
         return meta_place(alloc, reader, depth);
@@ -106,7 +101,7 @@ pub fn lval(alloc: Global, reader: &mut Reader<'_>, depth: u32) -> Result<Lval, 
 
 /// Reads a register, or the register of an array at an index: `NAME` or `NAME[INDEX]`. `depth` is how many brackets may be open
 /// from here on.
-pub fn register(alloc: Global, reader: &mut Reader<'_>, depth: u32) -> Result<RegRef, SyntaxError>
+pub fn register(alloc: Global, reader: &mut Reader<'_>, depth: u32) -> Parsed<RegRef>
     ensures { ReadsLineBefore EndsIndex SpellsRegister itself depth reader.old reader.new result }
 {
     let name = reader.name(alloc)?;
@@ -124,7 +119,7 @@ fn is_at_index(reader: &Reader<'_>) -> bool
 }
 
 /// `meta.NAME` or `meta.NAME[INDEX]`
-fn meta_place(alloc: Global, reader: &mut Reader<'_>, depth: u32) -> Result<Lval, SyntaxError>
+fn meta_place(alloc: Global, reader: &mut Reader<'_>, depth: u32) -> Parsed<Lval>
     ensures { ReadsPlace a_meta_place depth reader.old reader.new result }
 {
     reader.fixed_name(b"meta")?;
@@ -135,7 +130,7 @@ fn meta_place(alloc: Global, reader: &mut Reader<'_>, depth: u32) -> Result<Lval
 }
 
 /// `std.NAME`
-fn std_place(alloc: Global, reader: &mut Reader<'_>) -> Result<Lval, SyntaxError>
+fn std_place(alloc: Global, reader: &mut Reader<'_>) -> Parsed<Lval>
     ensures { (depth : ℕ) → ReadsPlace Lval.Std depth reader.old reader.new result }
 {
     reader.fixed_name(b"std")?;
@@ -145,7 +140,7 @@ fn std_place(alloc: Global, reader: &mut Reader<'_>) -> Result<Lval, SyntaxError
 }
 
 /// `hdr.HEADER.FIELD`
-fn header_place(alloc: Global, reader: &mut Reader<'_>) -> Result<Lval, SyntaxError>
+fn header_place(alloc: Global, reader: &mut Reader<'_>) -> Parsed<Lval>
     ensures { (depth : ℕ) → ReadsPlace a_header_place depth reader.old reader.new result }
 {
     let header = header(alloc, reader)?;

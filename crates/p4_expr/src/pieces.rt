@@ -6,17 +6,17 @@ ghost use Rattle.elastic_ast.specs.Tree.{PlainExpr};
 ghost use Rattle.spelling.specs.Reading.{IsWant};
 ghost use Rattle.spelling.specs.Readers.{itself, Reads, ReadsLine};
 ghost use Rattle.p4_expr.specs.Readings.{Makes};
-ghost use Rattle.p4_expr.specs.Parts.{SpellsCast, SpellsHashModulus, SpellsHashNumber};
+ghost use Rattle.p4_expr.specs.Parts.{SpellsAmountBefore, SpellsCast, SpellsHashEnd};
 ghost use Rattle.p4_expr.specs.Parts.{SpellsIsValid, SpellsSlice, SpellsTruth};
 
 use crate::parts::{amount, bits, header, no_arguments};
 use elastic_ast::{Amount, Expr};
 use elx_bits::Name;
-use spelling::{Reader, SyntaxError, in_brackets};
+use spelling::{Parsed, Reader, SyntaxError, in_brackets};
 use std::alloc::Global;
 
 /// `true` or `false`
-pub fn truth(reader: &mut Reader<'_>) -> Result<bool, SyntaxError>
+pub fn truth(reader: &mut Reader<'_>) -> Parsed<bool>
     ensures { Reads SpellsTruth itself reader.old reader.new result }
 {
     if reader.is_at_reserved(b"true") {
@@ -28,14 +28,14 @@ pub fn truth(reader: &mut Reader<'_>) -> Result<bool, SyntaxError>
 }
 
 /// `(bit<WIDTH>)`: the width. `depth` is how many brackets may be open from here on.
-pub fn cast(reader: &mut Reader<'_>, depth: u32) -> Result<u8, SyntaxError>
+pub fn cast(reader: &mut Reader<'_>, depth: u32) -> Parsed<u8>
     ensures { ReadsLine SpellsCast itself depth reader.old reader.new result }
 {
     in_brackets(reader, b"(", b")", depth, |reader, _| bits(reader))
 }
 
 /// `[HIGH:LOW]`: the two bits. `depth` is how many brackets may be open from here on.
-pub fn bit_range(reader: &mut Reader<'_>, depth: u32) -> Result<(u8, u8), SyntaxError>
+pub fn bit_range(reader: &mut Reader<'_>, depth: u32) -> Parsed<(u8, u8)>
     ensures { ReadsLine SpellsSlice itself depth reader.old reader.new result }
 {
     let _inner = reader.open(b"[", depth)?;
@@ -47,7 +47,7 @@ pub fn bit_range(reader: &mut Reader<'_>, depth: u32) -> Result<(u8, u8), Syntax
 }
 
 /// `hdr.NAME.isValid()`: the name of the header. `depth` is how many brackets may be open from here on.
-pub fn validity(alloc: Global, reader: &mut Reader<'_>, depth: u32) -> Result<Name, SyntaxError>
+pub fn validity(alloc: Global, reader: &mut Reader<'_>, depth: u32) -> Parsed<Name>
     ensures { ReadsLine SpellsIsValid itself depth reader.old reader.new result }
 {
     let name = header(alloc, reader)?;
@@ -57,24 +57,25 @@ pub fn validity(alloc: Global, reader: &mut Reader<'_>, depth: u32) -> Result<Na
     Ok(name)
 }
 
-/// `NUMBER,` of a hash
-pub fn hash_number(alloc: Global, reader: &mut Reader<'_>) -> Result<Amount, SyntaxError>
-    ensures { Reads SpellsHashNumber itself reader.old reader.new result }
+/// A number or a name, and a sign behind it.
+pub fn amount_before(alloc: Global, reader: &mut Reader<'_>, sign: &[u8]) -> Parsed<Amount>
+    ensures { Reads (SpellsAmountBefore sign.now) itself reader.old reader.new result }
 {
-    let number = amount(alloc, reader)?;
-    reader.sign(b",")?;
-    Ok(number)
+    let read = amount(alloc, reader)?;
+    reader.sign(sign)?;
+    Ok(read)
 }
 
-/// `, MODULUS` of a hash
-pub fn hash_modulus(alloc: Global, reader: &mut Reader<'_>) -> Result<Amount, SyntaxError>
-    ensures { Reads SpellsHashModulus itself reader.old reader.new result }
+/// `, MODULUS)` of a hash
+pub fn hash_end(alloc: Global, reader: &mut Reader<'_>) -> Parsed<Amount>
+    ensures { Reads SpellsHashEnd itself reader.old reader.new result }
 {
     reader.sign(b",")?;
-    amount(alloc, reader)
+    amount_before(alloc, reader, b")")
 }
 
-fn boxed(alloc: Global, e: Expr) -> Result<Box<Expr>, SyntaxError>
+/// An expression as a part of another.
+pub fn boxed(alloc: Global, e: Expr) -> Parsed<Box<Expr>>
     ensures made { IfOk result (λ b. b.value ≡ e) }
     ensures memory { IfErr result IsWant }
 {
@@ -84,52 +85,12 @@ fn boxed(alloc: Global, e: Expr) -> Result<Box<Expr>, SyntaxError>
     }
 }
 
-/// The operand of an operator with it before it.
-pub fn unary(alloc: Global, op: u16, of: Expr) -> Result<Expr, SyntaxError>
-    ensures made { Makes (PlainExpr.Unary op (seen_expr of)) result }
-    ensures memory { IfErr result IsWant }
-{
-    let of = boxed(alloc, of)?;
-    Ok(Expr::Unary { op, of })
-}
-
 /// Two operands with an operator between them.
-pub fn binary(alloc: Global, op: u16, left: Expr, right: Expr) -> Result<Expr, SyntaxError>
+pub fn binary(alloc: Global, op: u16, left: Expr, right: Expr) -> Parsed<Expr>
     ensures made { Makes (PlainExpr.Binary op (seen_expr left) (seen_expr right)) result }
     ensures memory { IfErr result IsWant }
 {
     let left = boxed(alloc, left)?;
     let right = boxed(alloc, right)?;
     Ok(Expr::Binary { op, left, right })
-}
-
-/// An expression that is brought to a width.
-pub fn casted(alloc: Global, width: u8, of: Expr) -> Result<Expr, SyntaxError>
-    ensures made { Makes (PlainExpr.Cast width (seen_expr of)) result }
-    ensures memory { IfErr result IsWant }
-{
-    let of = boxed(alloc, of)?;
-    Ok(Expr::Cast { width, of })
-}
-
-/// Some bits of an expression.
-pub fn slice(alloc: Global, of: Expr, high: u8, low: u8) -> Result<Expr, SyntaxError>
-    ensures made { Makes (PlainExpr.Slice (seen_expr of) high low) result }
-    ensures memory { IfErr result IsWant }
-{
-    let of = boxed(alloc, of)?;
-    Ok(Expr::Slice { of, high, low })
-}
-
-/// A hash of an expression.
-pub fn hash(alloc: Global, number: Amount, of: Expr, modulus: Amount) -> Result<Expr, SyntaxError>
-    ensures made { Makes (PlainExpr.Hash number (seen_expr of) modulus) result }
-    ensures memory { IfErr result IsWant }
-{
-    let of = boxed(alloc, of)?;
-    Ok(Expr::Hash {
-        k: number,
-        of,
-        modulus,
-    })
 }

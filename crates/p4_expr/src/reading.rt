@@ -1,28 +1,26 @@
 //! The reader of expressions.
 
-ghost use Rattle.std.specs.Prelude.{◌≡◌, ◌≤◌, IfOk, IfErr, length};
+ghost use Rattle.std.specs.Prelude.{◌+◌, ◌≤◌, IfOk, IfErr, length};
 ghost use Rattle.elastic_ast.specs.Seen.{seen_expr};
-ghost use Rattle.spelling.specs.Reading.{ahead, NamesAtMost};
+ghost use Rattle.spelling.specs.Reading.{NamesAtMost};
 ghost use Rattle.p4_expr.specs.Operators.{weakest};
-ghost use Rattle.p4_expr.specs.Expressions.{HasFewOperators, SpellsLevel, SpellsPrefixed};
-ghost use Rattle.p4_expr.specs.Expressions.{SpellsPrimary};
-ghost use Rattle.p4_expr.specs.Standing.{EndsBase, EndsLevel, GoesNoFurther};
-ghost use Rattle.p4_expr.specs.Bases.{SpellsBase, SpellsInBrackets, SpellsOwn};
-ghost use Rattle.p4_expr.specs.Readings.{CountsOperators, GoesNoFurtherAt, ReadsExprAt};
-ghost use Rattle.p4_expr.specs.Readings.{ReadsForm, ReadsHash, ReadsInBrackets, ReadsLevel};
-ghost use Rattle.p4_expr.specs.Readings.{ReadsOnly, ReadsTest, ReadsWhole, RefusesExprAt};
-ghost use Rattle.p4_expr.specs.Readings.{RefusesForm, RefusesHash, RefusesPast, RefusesTest};
-ghost use Rattle.p4_expr.specs.Readings.{RefusesWhole, TakesExpr, TakesExprAt, TakesWhole};
+ghost use Rattle.p4_expr.specs.Expressions.{HasFewOperators, SpellsLevel};
+ghost use Rattle.p4_expr.specs.Expressions.{SpellsPrefixed, SpellsPrimary};
+ghost use Rattle.p4_expr.specs.Standing.{EndsBase};
+ghost use Rattle.p4_expr.specs.Bases.{SpellsBase, SpellsHash, SpellsInBrackets};
+ghost use Rattle.p4_expr.specs.FormsAhead.{ReadsForm};
+ghost use Rattle.p4_expr.specs.Readings.{Anything, GoesNoFurtherAt, ReadsAnywhere, ReadsCounted};
+ghost use Rattle.p4_expr.specs.Readings.{ReadsExprAt};
+ghost use Rattle.p4_expr.specs.Readings.{ReadsLevel, ReadsLongestAt, ReadsWhole, RefusesExprAt};
+ghost use Rattle.p4_expr.specs.Readings.{TakesExprAt};
 
 use crate::forms::{Form, form_ahead, is_at_cast, is_at_slice};
 use crate::operators::operator;
 use crate::parts::{lval, number};
-use crate::pieces::{
-    binary, bit_range, cast, casted, hash, hash_modulus, hash_number, slice, truth, unary, validity,
-};
+use crate::pieces::{amount_before, binary, bit_range, boxed, cast, hash_end, truth, validity};
 use elastic_ast::Expr;
 use p4_lexer::Token;
-use spelling::{Reader, SyntaxError};
+use spelling::{Parsed, Reader};
 use std::alloc::Global;
 
 /// The weakest level of operators, which an expression without brackets around it has.
@@ -31,8 +29,9 @@ const WEAKEST: u8 = 10;
 /// How many operators an expression may have.
 const MOST_OPERATORS: u32 = 64;
 
-/// Reads the expression that stands at a token of a text, which is counted from 0, and gives the place behind it, where no
-/// operator stands and no slice. Takes the text in bytes, its tokens, and how many brackets may be open at a token.
+/// Reads the expression that stands at a token of a text, which is counted from 0, and gives the place behind it: no more
+/// tokens from there on spell one, and no operator and no slice stands behind it. Takes the text in bytes, its tokens, and
+/// how many brackets may be open at a token.
 ///
 /// NotProgram names the token at which the reading stopped: what stands before it is no expression, and doesn't go on there.
 /// TooDeep names a token that opens a bracket where `most_depth` stand open before it, or begins an operator where as many
@@ -43,11 +42,12 @@ pub fn expr(
     tokens: &[Token],
     at: usize,
     most_depth: u32,
-) -> Result<(Expr, usize), SyntaxError>
+) -> Parsed<(Expr, usize)>
     ensures taken { TakesExprAt most_depth text.now tokens.now at result }
     ensures few { IfOk result (λ r. HasFewOperators (seen_expr r.0)) }
     ensures within { IfOk result (λ r. r.1 ≤ length tokens.now) }
     ensures only { ReadsExprAt most_depth text.now tokens.now at result }
+    ensures longest { ReadsLongestAt text.now tokens.now at result }
     ensures whole { IfOk result (λ r. GoesNoFurtherAt weakest text.now tokens.now r.1) }
     ensures deep { RefusesExprAt most_depth text.now tokens.now at result }
     ensures named { IfErr result (NamesAtMost (length tokens.now)) }
@@ -59,14 +59,10 @@ pub fn expr(
     }
 }
 
-/// Reads the expression that stands next, up to where no operator stands and no slice. `depth` is how many brackets may be
-/// open from here on.
-pub fn read_expr(alloc: Global, reader: &mut Reader<'_>, depth: u32) -> Result<Expr, SyntaxError>
-    ensures taken { TakesWhole depth reader.old reader.new result }
-    ensures few { IfOk result (λ e. HasFewOperators (seen_expr e)) }
-    ensures only { ReadsWhole depth reader.old reader.new result }
-    ensures whole { IfOk result (λ _. GoesNoFurther weakest (ahead reader.new)) }
-    ensures deep { RefusesWhole depth reader.old reader.new result }
+/// Reads the longest expression that stands next, up to where no operator stands and no slice. `depth` is how many brackets
+/// may be open from here on.
+pub fn read_expr(alloc: Global, reader: &mut Reader<'_>, depth: u32) -> Parsed<Expr>
+    ensures { ReadsWhole depth reader.old reader.new result }
 {
     let (e, _) = level(alloc, reader, depth, MOST_OPERATORS, WEAKEST)?;
     Ok(e)
@@ -80,12 +76,8 @@ fn level(
     depth: u32,
     left: u32,
     level: u8,
-) -> Result<(Expr, u32), SyntaxError>
-    ensures taken { TakesExpr (SpellsLevel depth level) reader.old reader.new result }
-    ensures count { CountsOperators left result }
-    ensures only { ReadsLevel level depth left reader.old reader.new result }
-    ensures whole { IfOk result (λ _. GoesNoFurther level (ahead reader.new)) }
-    ensures deep { RefusesPast depth left reader.old reader.new result }
+) -> Parsed<(Expr, u32)>
+    ensures { ReadsLevel level (λ n. SpellsLevel n level) depth left reader.old reader.new result }
 {
     if level == 0 {
         return prefixed(alloc, reader, depth, left);
@@ -108,17 +100,8 @@ fn level(
 
 /// Reads an expression of level 0: a primary one, with the prefixes and casts before it.
 #[cycle(expressions)]
-fn prefixed(
-    alloc: Global,
-    reader: &mut Reader<'_>,
-    depth: u32,
-    left: u32,
-) -> Result<(Expr, u32), SyntaxError>
-    ensures taken { TakesExpr (SpellsPrefixed depth) reader.old reader.new result }
-    ensures count { CountsOperators left result }
-    ensures only { ReadsOnly (EndsLevel 0) SpellsPrefixed depth left reader.old reader.new result }
-    ensures whole { IfOk result (λ _. GoesNoFurther 0 (ahead reader.new)) }
-    ensures deep { RefusesPast depth left reader.old reader.new result }
+fn prefixed(alloc: Global, reader: &mut Reader<'_>, depth: u32, left: u32) -> Parsed<(Expr, u32)>
+    ensures { ReadsLevel 0 SpellsPrefixed depth left reader.old reader.new result }
 {
     let mut behind = reader.later(0);
     if let Some(op) = operator(&mut behind, 0) {
@@ -127,8 +110,8 @@ fn prefixed(
         }
         *reader = behind;
         let (of, fewer) = prefixed(alloc, reader, depth, left - 1)?;
-        let e = unary(alloc, op, of)?;
-        return Ok((e, fewer));
+        let operand = boxed(alloc, of)?;
+        return Ok((Expr::Unary { op, of: operand }, fewer));
     }
     if !is_at_cast(reader) {
         return primary(alloc, reader, depth, left);
@@ -138,23 +121,14 @@ fn prefixed(
     }
     let width = cast(reader, depth)?;
     let (of, fewer) = prefixed(alloc, reader, depth, left - 1)?;
-    let e = casted(alloc, width, of)?;
-    Ok((e, fewer))
+    let operand = boxed(alloc, of)?;
+    Ok((Expr::Cast { width, of: operand }, fewer))
 }
 
 /// Reads a primary expression, with the slices behind it.
 #[cycle(expressions)]
-fn primary(
-    alloc: Global,
-    reader: &mut Reader<'_>,
-    depth: u32,
-    left: u32,
-) -> Result<(Expr, u32), SyntaxError>
-    ensures taken { TakesExpr (SpellsPrimary depth) reader.old reader.new result }
-    ensures count { CountsOperators left result }
-    ensures only { ReadsOnly (EndsLevel 0) SpellsPrimary depth left reader.old reader.new result }
-    ensures whole { IfOk result (λ _. GoesNoFurther 0 (ahead reader.new)) }
-    ensures deep { RefusesPast depth left reader.old reader.new result }
+fn primary(alloc: Global, reader: &mut Reader<'_>, depth: u32, left: u32) -> Parsed<(Expr, u32)>
+    ensures { ReadsLevel 0 SpellsPrimary depth left reader.old reader.new result }
 {
     let (mut e, mut left) = base(alloc, reader, depth, left)?;
     'slices: while is_at_slice(reader) {
@@ -162,7 +136,8 @@ fn primary(
             return Err(reader.too_deep());
         }
         let (high, low) = bit_range(reader, depth)?;
-        e = slice(alloc, e, high, low)?;
+        let of = boxed(alloc, e)?;
+        e = Expr::Slice { of, high, low };
         left -= 1;
     }
     Ok((e, left))
@@ -170,36 +145,21 @@ fn primary(
 
 /// Reads a primary expression without the slices behind it.
 #[cycle(expressions)]
-fn base(
-    alloc: Global,
-    reader: &mut Reader<'_>,
-    depth: u32,
-    left: u32,
-) -> Result<(Expr, u32), SyntaxError>
-    ensures taken { TakesExpr (SpellsBase depth) reader.old reader.new result }
-    ensures count { CountsOperators left result }
-    ensures only { ReadsOnly EndsBase SpellsBase depth left reader.old reader.new result }
-    ensures deep { RefusesPast depth left reader.old reader.new result }
+fn base(alloc: Global, reader: &mut Reader<'_>, depth: u32, left: u32) -> Parsed<(Expr, u32)>
+    ensures { ReadsCounted EndsBase Anything SpellsBase depth left reader.old reader.new result }
 {
     match form_ahead(reader) {
         Form::Bracketed => in_brackets(alloc, reader, depth, left),
-        Form::Hash => hash_of(alloc, reader, depth, left),
+        Form::Hash if left == 0 => Err(reader.too_deep()),
+        Form::Hash => hash_of(alloc, reader, depth, left - 1),
         form => plain(alloc, reader, depth, left, form),
     }
 }
 
 /// `(EXPRESSION)`
 #[cycle(expressions)]
-fn in_brackets(
-    alloc: Global,
-    reader: &mut Reader<'_>,
-    depth: u32,
-    left: u32,
-) -> Result<(Expr, u32), SyntaxError>
-    ensures taken { TakesExpr (SpellsInBrackets depth) reader.old reader.new result }
-    ensures count { CountsOperators left result }
-    ensures only { ReadsInBrackets depth left reader.old reader.new result }
-    ensures deep { RefusesPast depth left reader.old reader.new result }
+fn in_brackets(alloc: Global, reader: &mut Reader<'_>, depth: u32, left: u32) -> Parsed<(Expr, u32)>
+    ensures { ReadsAnywhere SpellsInBrackets depth left reader.old reader.new result }
 {
     let inner = reader.open(b"(", depth)?;
     let (e, fewer) = level(alloc, reader, inner, left, WEAKEST)?;
@@ -207,29 +167,22 @@ fn in_brackets(
     Ok((e, fewer))
 }
 
-/// `hash(NUMBER, EXPRESSION, MODULUS)`
+/// `hash(NUMBER, EXPRESSION, MODULUS)`, with at most `left` operators in the expression
 #[cycle(expressions)]
-fn hash_of(
-    alloc: Global,
-    reader: &mut Reader<'_>,
-    depth: u32,
-    left: u32,
-) -> Result<(Expr, u32), SyntaxError>
-    ensures taken { TakesExpr (SpellsOwn depth) reader.old reader.new result }
-    ensures count { CountsOperators left result }
-    ensures only { ReadsHash depth left reader.old reader.new result }
-    ensures deep { RefusesHash depth left reader.old reader.new result }
+fn hash_of(alloc: Global, reader: &mut Reader<'_>, depth: u32, left: u32) -> Parsed<(Expr, u32)>
+    ensures { ReadsAnywhere SpellsHash depth (left + 1) reader.old reader.new result }
 {
-    if left == 0 {
-        return Err(reader.too_deep());
-    }
     reader.fixed_name(b"hash")?;
     let inner = reader.open(b"(", depth)?;
-    let number = hash_number(alloc, reader)?;
-    let (of, fewer) = level(alloc, reader, inner, left - 1, WEAKEST)?;
-    let modulus = hash_modulus(alloc, reader)?;
-    reader.sign(b")")?;
-    let e = hash(alloc, number, of, modulus)?;
+    let number = amount_before(alloc, reader, b",")?;
+    let (of, fewer) = level(alloc, reader, inner, left, WEAKEST)?;
+    let modulus = hash_end(alloc, reader)?;
+    let operand = boxed(alloc, of)?;
+    let e = Expr::Hash {
+        k: number,
+        of: operand,
+        modulus,
+    };
     Ok((e, fewer))
 }
 
@@ -240,11 +193,8 @@ fn plain(
     depth: u32,
     left: u32,
     form: Form,
-) -> Result<(Expr, u32), SyntaxError>
-    ensures taken { TakesExpr (SpellsOwn depth) reader.old reader.new result }
-    ensures count { CountsOperators left result }
-    ensures only { ReadsForm form depth left reader.old reader.new result }
-    ensures deep { RefusesForm form depth left reader.old reader.new result }
+) -> Parsed<(Expr, u32)>
+    ensures { ReadsForm form depth left reader.old reader.new result }
 {
     match form {
         Form::Number => {
@@ -269,16 +219,8 @@ fn plain(
 }
 
 /// The test of a header, which is an operator.
-fn test_of(
-    alloc: Global,
-    reader: &mut Reader<'_>,
-    depth: u32,
-    left: u32,
-) -> Result<(Expr, u32), SyntaxError>
-    ensures taken { TakesExpr (SpellsOwn depth) reader.old reader.new result }
-    ensures count { CountsOperators left result }
-    ensures only { ReadsTest depth left reader.old reader.new result }
-    ensures deep { RefusesTest depth left reader.old reader.new result }
+fn test_of(alloc: Global, reader: &mut Reader<'_>, depth: u32, left: u32) -> Parsed<(Expr, u32)>
+    ensures { ReadsForm Form.Validity depth left reader.old reader.new result }
 {
     if left == 0 {
         return Err(reader.too_deep());

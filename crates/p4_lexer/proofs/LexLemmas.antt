@@ -4,7 +4,7 @@ use Rattle.std.specs.Prelude.{All}
 use Rattle.std.proofs.lemmas.List.Elements.{All-nil, All-cons}
 use Rattle.p4_lexer.specs.declared.token.Token.{Token}
 use Rattle.p4_lexer.specs.Gaps.{IsSpacing, SpacingBy, IsGap}
-use Rattle.p4_lexer.specs.Tokens.{IsTokenAt, IsWithin, TokensBetween, TokensOf}
+use Rattle.p4_lexer.specs.Tokens.{IsTokenAt, LiesWithin, TokensBetween, TokensOf}
 
 gap_none : (text : List ℕ) (at : ℕ) → IsGap text at at
 unfolding SpacingBy
@@ -50,11 +50,11 @@ behind_token text from [] at token before here =
 behind_token text from (first ∷ tokens) at token before here = (before.0, before.1, behind_token text first.end tokens at token before.2 here)
 
 -- each token of a text isn't empty and lies within the text
-pub tokens_within : (text : List ℕ) (from : ℕ) (tokens : List Token) (to : ℕ) → TokensBetween text from tokens to → All (IsWithin (length text)) tokens
+pub tokens_within : (text : List ℕ) (from : ℕ) (tokens : List Token) (to : ℕ) → TokensBetween text from tokens to → All (LiesWithin (length text)) tokens
 unfolding TokensBetween
-tokens_within text from [] to rest = All-nil (IsWithin (length text))
+tokens_within text from [] to rest = All-nil (LiesWithin (length text))
 tokens_within text from (token ∷ tokens) to rest =
-    All-cons (IsWithin (length text)) token tokens (record { some = rest.1.some; within = rest.1.within }) (tokens_within text token.end tokens to rest.2)
+    All-cons (LiesWithin (length text)) token tokens (record { some = rest.1.some; within = rest.1.within }) (tokens_within text token.end tokens to rest.2)
 
 -- the step of the walk over a text at a token
 pub token_added : (text : List ℕ) (at : ℕ) (tokens more : List Token) (token : Token) → TokensBetween text 0 tokens at

@@ -1,5 +1,5 @@
 -- Which bytes a number is made of, and which it begins with.
-use Rattle.std.proofs.Common.{◌≡◌, ◌≢◌, ◌∙◌, ◌<◌, ◌≤◌, ◌++◌, ◌⊎◌, ◌∷◌, [], ℕ, List, Bool, true, false, cond, refl, ap, sym, subst, get_or, arith, Some, None, Option, inl, inr, ⊎_elim, lit≤, lit<}
+use Rattle.std.proofs.Common.{◌≡◌, ◌≢◌, ◌∙◌, ◌<◌, ◌≤◌, ◌++◌, ◌⊎◌, ◌∷◌, [], ℕ, List, Bool, true, false, cond, refl, ap, sym, subst, get_or, arith, Some, None, Option, inl, inr, lit≤, lit<}
 use Rattle.std.specs.Prelude.{◌==◌, not, ◌||◌, ◌&&◌, if◌then◌else◌}
 use Rattle.std.specs.Char.{digit_value, is_ascii_digit}
 use Rattle.std.specs.List.{list_all, AllPass}
@@ -8,26 +8,21 @@ use Rattle.std.proofs.lemmas.List.Folds.{list_all-append}
 use Rattle.std.proofs.lemmas.List.Sums.{AllPass-from_list_all}
 use Rattle.std.proofs.lemmas.Bool.{and_from}
 use Rattle.std.proofs.lemmas.Bool.Decides.{nat_tests}
-use Rattle.p4_lexer.specs.Numbers.{plain, base_of, IsInBase, IsBased, IsNatural, IsWidth, IsNumber}
+use Rattle.p4_lexer.specs.Numbers.{plain, base_of, IsInBase, IsBased, IsNatural, IsWidth, IsNumberText}
 use Rattle.p4_lexer.specs.Pieces.{is_word_byte}
 
 -- ---- the letters of the bases
 
 base_cases : (x o b : Bool) (base : ℕ) → (if x then Some 16 else (if o then Some 8 else (if b then Some 2 else None))) ≡ Some base
-    → (base ≤ 16) × ((x ≡ true) ⊎ (o ≡ true) ⊎ (b ≡ true))
-base_cases true o b base is = (let e : 16 ≡ base = cc is in omega arith, inl refl)
-base_cases false true b base is = (let e : 8 ≡ base = cc is in omega arith, inr (inl refl))
-base_cases false false true base is = (let e : 2 ≡ base = cc is in omega arith, inr (inr refl))
+    → (base ≤ 16) × ((x || (o || b)) ≡ true)
+base_cases true o b base is = (let e : 16 ≡ base = cc is in omega arith, refl)
+base_cases false true b base is = (let e : 8 ≡ base = cc is in omega arith, refl)
+base_cases false false true base is = (let e : 2 ≡ base = cc is in omega arith, refl)
 base_cases false false false base is = absurd (cc is)
 
 base_small : (letter base : ℕ) → base_of letter ≡ Some base → base ≤ 16
 base_small letter base is =
     (base_cases (letter == 120 || letter == 88) (letter == 111 || letter == 79) (letter == 98 || letter == 66) base is).0
-
-letter_is : (letter base : ℕ) → base_of letter ≡ Some base
-    → ((letter == 120 || letter == 88) ≡ true) ⊎ ((letter == 111 || letter == 79) ≡ true) ⊎ ((letter == 98 || letter == 66) ≡ true)
-letter_is letter base is =
-    (base_cases (letter == 120 || letter == 88) (letter == 111 || letter == 79) (letter == 98 || letter == 66) base is).1
 
 -- the letter of a base is a letter, but no decimal digit, no `_` and no `w`
 record IsLetter (letter : ℕ) : Type 0 where
@@ -36,32 +31,15 @@ record IsLetter (letter : ℕ) : Type 0 where
   no_line : letter ≢ 95
   no_w : (letter == 119) ≡ false
 
-letter_x : (letter : ℕ) → (letter == 120 || letter == 88) ≡ true → IsLetter letter
-letter_x letter is = record {
-  word = grind (arith, nat_tests);
-  great = grind (arith, nat_tests);
-  no_line = λ e. absurd (grind (arith, nat_tests));
-  no_w = grind (arith, nat_tests);
-}
-
-letter_o : (letter : ℕ) → (letter == 111 || letter == 79) ≡ true → IsLetter letter
-letter_o letter is = record {
-  word = grind (arith, nat_tests);
-  great = grind (arith, nat_tests);
-  no_line = λ e. absurd (grind (arith, nat_tests));
-  no_w = grind (arith, nat_tests);
-}
-
-letter_b : (letter : ℕ) → (letter == 98 || letter == 66) ≡ true → IsLetter letter
-letter_b letter is = record {
-  word = grind (arith, nat_tests);
-  great = grind (arith, nat_tests);
-  no_line = λ e. absurd (grind (arith, nat_tests));
-  no_w = grind (arith, nat_tests);
-}
-
 base_letter : (letter base : ℕ) → base_of letter ≡ Some base → IsLetter letter
-base_letter letter base is = ⊎_elim (letter_x letter) (⊎_elim (letter_o letter) (letter_b letter)) (letter_is letter base is)
+base_letter letter base is =
+    let one = (base_cases (letter == 120 || letter == 88) (letter == 111 || letter == 79) (letter == 98 || letter == 66) base is).1 in
+    record {
+      word = grind (arith, nat_tests);
+      great = grind (arith, nat_tests);
+      no_line = λ e. absurd (grind (arith, nat_tests));
+      no_w = grind (arith, nat_tests);
+    }
 
 -- ---- tests that each byte of a number without a width passes
 
@@ -115,7 +93,7 @@ line_is_word c same = grind (arith, nat_tests)
 word_test : IsNumberTest is_word_byte
 word_test = record { digit = digit_is_word; line = line_is_word; letter = λ letter base is. (base_letter letter base is).word }
 
-pub number_is_words : (width : Option ℕ) (value : ℕ) (bytes : List ℕ) → IsNumber width value bytes → AllPass is_word_byte bytes
+pub number_is_words : (width : Option ℕ) (value : ℕ) (bytes : List ℕ) → IsNumberText width value bytes → AllPass is_word_byte bytes
 number_is_words None value bytes natural = AllPass-from_list_all is_word_byte bytes (natural_passes is_word_byte word_test value bytes natural)
 number_is_words (Some width) value bytes widened = AllPass-from_list_all is_word_byte bytes
     (let P : List ℕ → Type 0 = λ list. list_all is_word_byte list ≡ true in
@@ -182,7 +160,7 @@ width_first : (width : ℕ) (bytes rest : List ℕ) → IsWidth width bytes → 
 width_first width [] rest is = let low = is.low in let none = is.value_is in absurd (omega arith)
 width_first width (c ∷ bytes) rest is = low_is_digit c is.digits.0
 
-pub number_first : (width : Option ℕ) (value : ℕ) (bytes : List ℕ) → IsNumber width value bytes → is_ascii_digit (get_or bytes 0 0) ≡ true
+pub number_first : (width : Option ℕ) (value : ℕ) (bytes : List ℕ) → IsNumberText width value bytes → is_ascii_digit (get_or bytes 0 0) ≡ true
 number_first None value bytes natural = form_first value bytes natural.form
 number_first (Some width) value bytes widened =
     let P : List ℕ → Type 0 = λ list. is_ascii_digit (get_or list 0 0) ≡ true in

@@ -8,7 +8,7 @@ use Rattle.std.proofs.lemmas.List.{get_or-take, get_or_default, length-take}
 use Rattle.std.proofs.lemmas.List.Quantifiers.{position-Some}
 use Rattle.std.proofs.lemmas.List.Sums.{list_all-from_AllPass, prefix_len_passes}
 use Rattle.case_table.proofs.RowLemmas.{rest_of}
-use Rattle.p4_lexer.specs.Numbers.{base_of, IsInBase, IsBased, IsNatural, IsWidth, IsWidened, IsNumber, IsNoNumber}
+use Rattle.p4_lexer.specs.Numbers.{base_of, IsInBase, IsBased, IsNatural, IsWidth, IsWidened, IsNumberText, IsNoNumber}
 use Rattle.p4_lexer.proofs.DigitFronts.{split_at}
 use Rattle.p4_lexer.proofs.NumberBytes.{is_no_w, natural_no_w, width_no_w, decimal_is_not_based}
 
@@ -91,7 +91,7 @@ one_widened width value other more bytes widened second =
     (parts.0.value_is ∙ sym second.width_is.value_is, one_natural value more second.rest parts.1 second.natural)
 
 -- a number has one width, or none, and one value
-pub one_number : (width : Option ℕ) (value : ℕ) (other : Option ℕ) (more : ℕ) (bytes : List ℕ) → IsNumber width value bytes → IsNumber other more bytes
+pub one_number : (width : Option ℕ) (value : ℕ) (other : Option ℕ) (more : ℕ) (bytes : List ℕ) → IsNumberText width value bytes → IsNumberText other more bytes
     → (width ≡ other) × (value ≡ more)
 one_number None value None more bytes natural second = (refl, one_natural value more bytes natural second)
 one_number None value (Some other) more bytes natural second = absurd (widened_has_w other more bytes second (natural_no_w value bytes natural))

@@ -5,7 +5,7 @@ use Rattle.std.specs.Char.{is_ascii_digit}
 use Rattle.case_table.specs.Rows.{IsWordAt}
 use Rattle.p4_lexer.specs.declared.token.Kind.{Kind}
 use Rattle.p4_lexer.specs.declared.token.Kind.TheVariants.{Reserved, Sign, Name, Number, Include}
-use Rattle.p4_lexer.specs.Numbers.{IsNumber}
+use Rattle.p4_lexer.specs.Numbers.{IsNumberText}
 use Rattle.p4_lexer.specs.Pieces.{reserved_words, signs, is_word_byte, IsPiece}
 use Rattle.p4_lexer.specs.Tokens.{IsLongest}
 use Rattle.p4_lexer.proofs.PieceBytes.{apart, reserved_is_words, sign_first, sign_is_no_hash, include_first, hash_is_no_word, reserved_no_digit, range_some}
@@ -26,11 +26,11 @@ one_sign code other piece at second = one_code signs code other piece refl at se
 sign_or_word : (code : ℕ) (piece : List ℕ) → IsWordAt signs code piece → is_word_byte (get_or piece 0 0) ≡ true → ⊥
 sign_or_word code piece sign word = apart (is_word_byte (get_or piece 0 0)) (sign_first code piece sign) word
 
-reserved_or_number : (code : ℕ) (width : Option ℕ) (value : ℕ) (piece : List ℕ) → IsWordAt reserved_words code piece → IsNumber width value piece → ⊥
+reserved_or_number : (code : ℕ) (width : Option ℕ) (value : ℕ) (piece : List ℕ) → IsWordAt reserved_words code piece → IsNumberText width value piece → ⊥
 reserved_or_number code width value piece reserved number =
     apart (is_ascii_digit (get_or piece 0 0)) (reserved_no_digit code piece reserved) (number_first width value piece number)
 
-name_or_number : (width : Option ℕ) (value : ℕ) (piece : List ℕ) → IsPiece Name piece → IsNumber width value piece → ⊥
+name_or_number : (width : Option ℕ) (value : ℕ) (piece : List ℕ) → IsPiece Name piece → IsNumberText width value piece → ⊥
 name_or_number width value piece name number = apart (is_ascii_digit (get_or piece 0 0)) name.first (number_first width value piece number)
 
 -- the bytes of a piece tell its kind

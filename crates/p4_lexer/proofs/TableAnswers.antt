@@ -2,12 +2,12 @@
 use Rattle.std.proofs.Common.{◌≡◌, ◌<◌, ◌≤◌, ◌+◌, ◌-◌, ℕ, List, Option, Some, None, length, drop, take, sym, subst, arith, length-drop}
 use Rattle.std.specs.Prelude.{MatchOption, slice_range}
 use Rattle.case_table.specs.declared.rows.Case.{Case}
-use Rattle.case_table.specs.Rows.{IsWordAt, ListsWords, IsMunched, code_of}
+use Rattle.case_table.specs.Rows.{IsWordAt, ListsWords, IsMunched, code_in}
 use Rattle.case_table.proofs.Found.{code_of_some, code_of_none, word_of_row, row_of_word, longest_has_row, longest_some, longest_within, longest_bounds, none_stands}
 use Rattle.p4_lexer.specs.Pieces.{reserved_words, signs}
 use Rattle.p4_lexer.specs.Tokens.{IsLongestSign}
 
-pub reserved_answer : (table : List Case) (word : List ℕ) (found : Option ℕ) → found ≡ code_of table word → ListsWords table reserved_words
+pub reserved_answer : (table : List Case) (word : List ℕ) (found : Option ℕ) → found ≡ code_in table word → ListsWords table reserved_words
     → MatchOption found ((code : ℕ) → IsWordAt reserved_words code word → ⊥) (λ code. IsWordAt reserved_words code word)
 reserved_answer table word None is lists = λ code at. code_of_none table word code (sym is) (row_of_word table reserved_words word code lists at)
 reserved_answer table word (Some code) is lists = word_of_row table reserved_words word code lists (code_of_some table word code (sym is))

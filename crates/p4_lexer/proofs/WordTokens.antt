@@ -77,11 +77,8 @@ word_token text at end kind from inside within first stop piece = record {
 
 number_refused : (kind : Kind) (piece : List ℕ) → IsNumberKind kind → IsPiece kind piece
     → IsNoNumber piece → ⊥
-number_refused (Reserved code) piece number is none = absurd number
-number_refused (Sign code) piece number is none = absurd number
-number_refused Name piece number is none = absurd number
 number_refused (Number width value) piece number is none = none width value is
-number_refused (Include code) piece number is none = absurd number
+number_refused other piece number is none = absurd number
 
 number_ends : (text : List ℕ) (at n end : ℕ) (kind : Kind) → end ≤ length text
     → ((k : ℕ) → at ≤ k → k < end → is_word_byte (get_or text k 0) ≡ true) → IsNumberKind kind → IsLongest text at n kind → end ≤ n

@@ -3,7 +3,7 @@ use Rattle.std.specs.Prelude.{◌≡◌, ℕ, ◌^◌, ◌<◌, ◌≤◌, true,
 use Rattle.std.specs.Char.{is_ascii_digit}
 use Rattle.case_table.specs.Rows.{IsWordAt}
 use Rattle.p4_lexer.specs.declared.token.Kind.{Kind}
-use Rattle.p4_lexer.specs.Numbers.{IsNumber, IsNoNumber, IsInBase}
+use Rattle.p4_lexer.specs.Numbers.{IsNumberText, IsNoNumber, IsInBase}
 use Rattle.p4_lexer.specs.Pieces.{signs, IsPiece}
 use Rattle.p4_lexer.specs.Tokens.{IsLongestSign}
 
@@ -21,7 +21,7 @@ IsTooGreat value = 2 ^ 128 ≤ value
 
 -- the width, if there is one, and the value of the number that a text is
 abbrev pub IsNumberRead : List ℕ → Option (Option ℕ × ℕ) → Type 0
-IsNumberRead text result = MatchOption result (IsNoNumber text) (λ found. IsNumber found.0 found.1 text)
+IsNumberRead text result = MatchOption result (IsNoNumber text) (λ found. IsNumberText found.0 found.1 text)
 
 -- the value of digits in a base, or none where it doesn't fit 128 bits or they aren't digits of the base
 abbrev pub IsSmallInBase : ℕ → List ℕ → Option ℕ → Type 0

@@ -50,10 +50,10 @@ pub record IsWidened (width value : ℕ) (bytes : List ℕ) : Type 0 where
   pub natural : IsNatural value rest
 
 -- the bytes spell a number that has this width, or none, and this value
-abbrev pub IsNumber : Option ℕ → ℕ → List ℕ → Type 0
-IsNumber None value bytes = IsNatural value bytes
-IsNumber (Some width) value bytes = IsWidened width value bytes
+abbrev pub IsNumberText : Option ℕ → ℕ → List ℕ → Type 0
+IsNumberText None value bytes = IsNatural value bytes
+IsNumberText (Some width) value bytes = IsWidened width value bytes
 
 -- the bytes spell no number
 abbrev pub IsNoNumber : List ℕ → Type 0
-IsNoNumber bytes = (width : Option ℕ) (value : ℕ) → IsNumber width value bytes → ⊥
+IsNoNumber bytes = (width : Option ℕ) (value : ℕ) → IsNumberText width value bytes → ⊥

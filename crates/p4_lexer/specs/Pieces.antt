@@ -5,7 +5,7 @@ use Rattle.std.specs.List.{AllPass}
 use Rattle.case_table.specs.Rows.{IsWordAt}
 use Rattle.p4_lexer.specs.declared.token.Kind.{Kind}
 use Rattle.p4_lexer.specs.declared.token.Kind.TheVariants.{Reserved, Sign, Name, Number, Include}
-use Rattle.p4_lexer.specs.Numbers.{IsNumber}
+use Rattle.p4_lexer.specs.Numbers.{IsNumberText}
 
 -- the reserved words; the code of each is the number of those before it
 unfoldable pub reserved_words : List (List ℕ)
@@ -33,7 +33,7 @@ abbrev pub is_blank : ℕ → Bool
 is_blank byte = byte == 32 || byte == 9
 
 -- a letter or `_`, then letters, digits and `_`, and no reserved word
-pub record IsName (piece : List ℕ) : Type 0 where
+pub record IsNamePiece (piece : List ℕ) : Type 0 where
   pub some : 0 < length piece
   pub bytes : AllPass is_word_byte piece
   pub first : is_ascii_digit (slice_index piece 0) ≡ false
@@ -56,8 +56,8 @@ pub record IsInclude (code : ℕ) (piece : List ℕ) : Type 0 where
 abbrev pub IsPiece : Kind → List ℕ → Type 0
 IsPiece (Reserved code) piece = IsWordAt reserved_words code piece
 IsPiece (Sign code) piece = IsWordAt signs code piece
-IsPiece Name piece = IsName piece
-IsPiece (Number width value) piece = IsNumber width value piece
+IsPiece Name piece = IsNamePiece piece
+IsPiece (Number width value) piece = IsNumberText width value piece
 IsPiece (Include code) piece = IsInclude code piece
 
 -- the kind is that of a number

@@ -31,7 +31,7 @@ pub record IsTokenAt (text : List ℕ) (at : ℕ) (token : Token) : Type 0 where
   pub longest : IsLongest text token.at token.end token.kind
 
 -- the token isn't empty, and lies within a text of this length
-pub record IsWithin (len : ℕ) (token : Token) : Type 0 where
+pub record LiesWithin (len : ℕ) (token : Token) : Type 0 where
   pub some : token.at < token.end
   pub within : token.end ≤ len
 

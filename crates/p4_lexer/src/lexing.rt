@@ -1,6 +1,6 @@
 ghost use Rattle.std.specs.Prelude.{◌≡◌, ◌≤◌, [], ◌∷◌, ◌++◌, length, All, IfOk, IfErr, OnOk};
 ghost use Rattle.p4_lexer.specs.BadPlaces.{IsBadPlace, IsBad};
-ghost use Rattle.p4_lexer.specs.Tokens.{TokensOf, IsWithin};
+ghost use Rattle.p4_lexer.specs.Tokens.{TokensOf, LiesWithin};
 ghost use Rattle.p4_lexer.specs.OneTokenList.{HasOneTokenList, HasNoTokensWhereBad, HasOneBadPlace};
 ghost use Rattle.p4_lexer.specs.TextLimit.{most_text};
 
@@ -14,7 +14,7 @@ use std::alloc::Global;
 pub fn lex(alloc: Global, text: &[u8]) -> Result<Items<Token>, LexError>
     requires { length text.now ≤ most_text }
     ensures tokens { IfOk result (λ tokens. TokensOf text.now tokens) }
-    ensures within { IfOk result (λ tokens. All (IsWithin (length text.now)) tokens) }
+    ensures within { IfOk result (λ tokens. All (LiesWithin (length text.now)) tokens) }
     ensures few { IfOk result (λ tokens. length tokens ≤ length text.now) }
     ensures refused { IfErr result (IsBad text.now) }
 {

@@ -1,7 +1,7 @@
 ghost use Rattle.std.specs.Prelude.{◌≡◌, ℕ, ◌+◌, ◌*◌, ◌^◌, ◌<◌, ◌≤◌, ◌==◌, IfSome, IfNone, MatchOption, position};
 ghost use Rattle.std.specs.Char.{digit_value};
 ghost use Rattle.p4_lexer.specs.Finding.{IsFound, IsNumberRead, IsSmallInBase, IsTooGreat};
-ghost use Rattle.p4_lexer.specs.Numbers.{IsNumber, IsNoNumber, IsNatural, IsInBase, IsWidth, base_of};
+ghost use Rattle.p4_lexer.specs.Numbers.{IsNumberText, IsNoNumber, IsNatural, IsInBase, IsWidth, base_of};
 
 /// The most bits that a width may say.
 const WIDEST: u32 = 128;

@@ -1,6 +1,6 @@
 -- What the spelling of an action leaves no choice of.
 use Rattle.p4_parser.specs.Reading.{OpensNextRound}
-use Rattle.std.proofs.Common.{◌≡◌, ℕ, List, [], ◌∷◌, Option, Some, None, codes, refl, ap, subst, ◌∙◌}
+use Rattle.std.proofs.Common.{◌≡◌, ℕ, List, Option, Some, None, codes, refl, ap, subst, ◌∙◌}
 use Rattle.elastic_ast.specs.declared.declarations.Param.{Param}
 use Rattle.elastic_ast.specs.Tree.{PlainAction, PlainStmts}
 use Rattle.spelling.specs.Words.{Word}
@@ -35,14 +35,8 @@ index_missing depth None m not_at = (refl, empty_same m)
 index_missing depth (Some name) m not_at = absurd (not_at (begins_bracketed (codes "[") (codes "]") depth (λ _. SpellsIndexName name) m))
 
 -- a parameter's first word is no sign
-param_no_sign : (param : Param) {Q : Grammar} {a c : List Word} (sign : List ℕ) → MayTake (SpellsParam param ⨟ Q) a c → Begins (IsSign sign) a → ⊥
-param_no_sign param {a = a} sign m =
-    not_sign sign a (λ word h. reserved_no_sign word.kind h.0) (begins_first (of_where (split (split m).first).first))
-
--- a closing bracket stands where no parameter is left
-pub no_params : (params : List Param) {a c : List Word} → MayTake (SpellsParamList params) a c → Begins (IsSign (codes ")")) a → ([] ≡ params) × (a ≡ c)
-no_params [] m at = (refl, empty_same m)
-no_params (param ∷ params) m at = absurd (param_no_sign param (codes ")") m at)
+pub param_no_sign : (param : Param) {a c : List Word} (sign : List ℕ) → MayTake (SpellsParam param) a c → Begins (IsSign sign) a → ⊥
+param_no_sign param {a = a} sign m = not_sign sign a (λ word h. reserved_no_sign word.kind h.0) (begins_first (of_where (split m).first))
 
 pub same_param : {n k : List ℕ} {w v : ℕ} → n ≡ k → w ≡ v → a_param n w ≡ a_param k v
 same_param {k = k} {w = w} e f = ap (λ n. a_param n w) e ∙ ap (a_param k) f

@@ -1,6 +1,6 @@
 -- What the spelling of a control leaves no choice of, and how few operators its expressions have.
 use Rattle.std.proofs.Common.{◌≡◌, ℕ, List, ◌⊎◌, inl, inr, codes, refl, ap, ◌∙◌}
-use Rattle.elastic_ast.specs.Tree.{PlainAction, PlainDecl, PlainLocal, PlainStmts, PlainTable}
+use Rattle.elastic_ast.specs.Tree.{PlainAction, PlainLocal, PlainStmts, PlainTable}
 use Rattle.spelling.specs.Words.{Word}
 use Rattle.spelling.specs.Grammar.{Grammar, ◌⨟◌, Begins, Bracketed, Each, IsNamed, IsReserved, Named, Reserved}
 use Rattle.spelling.specs.Reading.{MayTake}
@@ -49,6 +49,3 @@ table_there more (PlainLocal.OfTable table) m none = record { table = table; is 
 
 pub same_contents : {k l : List PlainLocal} {a b : PlainStmts} → k ≡ l → a ≡ b → ◌≡◌ {A = List PlainLocal × PlainStmts} (k, a) (l, b)
 same_contents {l = l} {a = a} e f = ap (λ x. (x, a)) e ∙ ap (λ x. (l, x)) f
-
-pub same_control : {n k : List ℕ} {x y : List PlainLocal × PlainStmts} → n ≡ k → x ≡ y → PlainDecl.Control n x.0 x.1 ≡ PlainDecl.Control k y.0 y.1
-same_control {k = k} {x = x} e f = ap (λ n. PlainDecl.Control n x.0 x.1) e ∙ ap (λ both. PlainDecl.Control k both.0 both.1) f

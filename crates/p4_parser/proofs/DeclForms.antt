@@ -10,7 +10,7 @@ use Rattle.spelling.proofs.Only.{begins, begins_both, begins_first, behind_first
 use Rattle.p4_declarations.specs.Flat.{SpellsFlat}
 use Rattle.p4_expr.specs.Expressions.{HasFewOperators}
 use Rattle.p4_statements.proofs.Ahead.{at_third}
-use Rattle.p4_statements.proofs.Lists.{all_back, all_front}
+use Rattle.spelling.proofs.AllOf.{all_back, all_front}
 use Rattle.p4_parser.specs.Declarations.{SpellsDeclaration}
 use Rattle.p4_parser.specs.ExpressionsIn.{expressions_of_decl, expressions_in}
 use Rattle.p4_parser.specs.Reading.{DeclHasFew, ProgramHasFew}
@@ -84,32 +84,13 @@ flat_there : (more : ℕ) (decl : PlainDecl) {a c : List Word} → MayTake (Spel
 flat_there more (PlainDecl.Parser name states) m e = absurd m.spelled
 flat_there more (PlainDecl.Control name locals body) m e = absurd m.spelled
 flat_there more (PlainDecl.Include file) m e = none_begins _ (begins (of_where m)) e
-flat_there more (PlainDecl.Symbol symbol) m e = none_begins _ (begins_first m) e
-flat_there more (PlainDecl.Assume comps) m e = none_begins _ (begins_first m) e
-flat_there more (PlainDecl.Maximize terms) m e = none_begins _ (begins_first m) e
-flat_there more (PlainDecl.Const name width value) m e = none_begins _ (begins_first m) e
-flat_there more (PlainDecl.Header name fields) m e = none_begins _ (begins_first m) e
-flat_there more (PlainDecl.Headers members) m e = none_begins _ (begins_first m) e
-flat_there more (PlainDecl.Meta fields) m e = none_begins _ (begins_first m) e
-flat_there more (PlainDecl.Register name width cells size) m e = none_begins _ (begins_first m) e
-flat_there more (PlainDecl.Deparser name emits) m e = none_begins _ (begins_first m) e
-flat_there more (PlainDecl.Main parser control deparser) m e = none_begins _ (begins_first m) e
+flat_there more other m e = none_begins _ (begins_first m) e
 
 -- what is flat is a declaration, without expressions
 pub flat_declaration : (depth : ℕ) (decl : PlainDecl) (ws : List Word) → SpellsFlat depth decl ws → SpellsDeclaration depth decl ws × DeclHasFew decl
 flat_declaration depth (PlainDecl.Parser name states) ws h = absurd h
 flat_declaration depth (PlainDecl.Control name locals body) ws h = absurd h
-flat_declaration depth (PlainDecl.Include file) ws h = (h, All-nil HasFewOperators)
-flat_declaration depth (PlainDecl.Symbol symbol) ws h = (h, All-nil HasFewOperators)
-flat_declaration depth (PlainDecl.Assume comps) ws h = (h, All-nil HasFewOperators)
-flat_declaration depth (PlainDecl.Maximize terms) ws h = (h, All-nil HasFewOperators)
-flat_declaration depth (PlainDecl.Const name width value) ws h = (h, All-nil HasFewOperators)
-flat_declaration depth (PlainDecl.Header name fields) ws h = (h, All-nil HasFewOperators)
-flat_declaration depth (PlainDecl.Headers members) ws h = (h, All-nil HasFewOperators)
-flat_declaration depth (PlainDecl.Meta fields) ws h = (h, All-nil HasFewOperators)
-flat_declaration depth (PlainDecl.Register name width cells size) ws h = (h, All-nil HasFewOperators)
-flat_declaration depth (PlainDecl.Deparser name emits) ws h = (h, All-nil HasFewOperators)
-flat_declaration depth (PlainDecl.Main parser control deparser) ws h = (h, All-nil HasFewOperators)
+flat_declaration depth other ws h = (h, All-nil HasFewOperators)
 
 -- few operators, of a list of declarations
 pub few_push : (decls : PlainProgram) (decl : PlainDecl) → ProgramHasFew decls → DeclHasFew decl → ProgramHasFew (decls ++ decl ∷ [])

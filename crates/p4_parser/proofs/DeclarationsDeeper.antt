@@ -66,11 +66,8 @@ pub part_deeper : (depth more : ℕ) (name : Name) → depth ≤ more → Under 
 part_deeper depth more name le = under_both (itself (Named name)) (no_arguments_deeper depth more le)
 
 pub flat_deeper : (depth more : ℕ) (decl : PlainDecl) → depth ≤ more → Under (SpellsFlat depth decl) (SpellsFlat more decl)
-flat_deeper depth more (PlainDecl.Include file) le = λ ws h. h
-flat_deeper depth more (PlainDecl.Symbol symbol) le = λ ws h. h
 flat_deeper depth more (PlainDecl.Assume comps) le = under_both (itself (Named (codes "assume"))) (under_both (under_bracketed (codes "(") (codes ")") depth more (λ _. SpellsComparisons comps) (λ _. SpellsComparisons comps) le (λ i j k. itself (SpellsComparisons comps))) (itself (Sign (codes ";"))))
 flat_deeper depth more (PlainDecl.Maximize terms) le = under_both (itself (Named (codes "maximize"))) (under_both (under_bracketed (codes "(") (codes ")") depth more (λ inner. FirstThenEach (SpellsFirstGain inner) (SpellsLaterGain inner) terms) (λ inner. FirstThenEach (SpellsFirstGain inner) (SpellsLaterGain inner) terms) le (λ i j k. under_first (SpellsFirstGain i) (SpellsFirstGain j) (SpellsLaterGain i) (SpellsLaterGain j) (λ term. first_gain_deeper i j term k) (λ term. later_gain_deeper i j term k) terms)) (itself (Sign (codes ";"))))
-flat_deeper depth more (PlainDecl.Const name width value) le = λ ws h. h
 flat_deeper depth more (PlainDecl.Header name fields) le = under_both (itself (Reserved (codes "header"))) (under_both (itself (Named name)) (under_bracketed (codes "{") (codes "}") depth more (λ _. Each SpellsHeaderField fields) (λ _. Each SpellsHeaderField fields) le (λ i j k. itself (Each SpellsHeaderField fields))))
 flat_deeper depth more (PlainDecl.Headers members) le = under_both (itself (Reserved (codes "struct"))) (under_both (itself (Named (codes "headers_t"))) (under_bracketed (codes "{") (codes "}") depth more (λ _. Each SpellsMember members) (λ _. Each SpellsMember members) le (λ i j k. itself (Each SpellsMember members))))
 flat_deeper depth more (PlainDecl.Meta fields) le = under_both (itself (Reserved (codes "struct"))) (under_both (itself (Named (codes "meta_t"))) (under_bracketed (codes "{") (codes "}") depth more (λ inner. Each (SpellsMetaField inner) fields) (λ inner. Each (SpellsMetaField inner) fields) le (λ i j k. under_each (SpellsMetaField i) (SpellsMetaField j) (λ field. meta_field_deeper i j field k) fields)))
@@ -79,6 +76,7 @@ flat_deeper depth more (PlainDecl.Parser name states) le = λ ws h. absurd h
 flat_deeper depth more (PlainDecl.Control name locals body) le = λ ws h. absurd h
 flat_deeper depth more (PlainDecl.Deparser name emits) le = under_both (itself (Reserved (codes "control"))) (under_both (itself (Named name)) (under_both (under_bracketed (codes "(") (codes ")") depth more (λ _. SpellsDeparserParameters) (λ _. SpellsDeparserParameters) le (λ i j k. itself SpellsDeparserParameters)) (under_bracketed (codes "{") (codes "}") depth more (λ inner. Named (codes "apply") ⨟ Bracketed (codes "{") (codes "}") inner (λ innermost. Each (SpellsEmit innermost) emits)) (λ inner. Named (codes "apply") ⨟ Bracketed (codes "{") (codes "}") inner (λ innermost. Each (SpellsEmit innermost) emits)) le (λ i j k. under_both (itself (Named (codes "apply"))) (under_bracketed (codes "{") (codes "}") i j (λ innermost. Each (SpellsEmit innermost) emits) (λ innermost. Each (SpellsEmit innermost) emits) k (λ a b c. under_each (SpellsEmit a) (SpellsEmit b) (λ header. emit_deeper a b header c) emits))))))
 flat_deeper depth more (PlainDecl.Main parser control deparser) le = under_both (itself (Named (codes "Pisa"))) (under_both (under_bracketed (codes "(") (codes ")") depth more (λ inner. SpellsPart inner parser ⨟ Sign (codes ",") ⨟ SpellsPart inner control ⨟ Sign (codes ",") ⨟ SpellsPart inner deparser) (λ inner. SpellsPart inner parser ⨟ Sign (codes ",") ⨟ SpellsPart inner control ⨟ Sign (codes ",") ⨟ SpellsPart inner deparser) le (λ i j k. under_both (part_deeper i j parser k) (under_both (itself (Sign (codes ","))) (under_both (part_deeper i j control k) (under_both (itself (Sign (codes ","))) (part_deeper i j deparser k)))))) (under_both (itself (Named (codes "main"))) (itself (Sign (codes ";")))))
+flat_deeper depth more other le = λ ws h. h
 
 pub action_index_deeper : (depth more : ℕ) (index : Option Name) → depth ≤ more → Under (SpellsActionIndex depth index) (SpellsActionIndex more index)
 action_index_deeper depth more None le = itself Empty

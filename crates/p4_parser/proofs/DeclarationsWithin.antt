@@ -10,7 +10,7 @@ use Rattle.p4_expr.proofs.PartsWithin.{bits_stays, header_stays}
 use Rattle.p4_expr.proofs.ExprWithin.{expr_within}
 use Rattle.p4_declarations.proofs.FlatWithin.{flat_stays}
 use Rattle.p4_statements.specs.Statements.{SpellsPlains, SpellsStmts}
-use Rattle.p4_parser.specs.Declarations.{SpellsActionIndex, SpellsParam, SpellsLocal, SpellsExtract, SpellsCase, SpellsNext, SpellsState, SpellsParserParameters, SpellsControlParameters, SpellsDeclaration, SpellsProgram}
+use Rattle.p4_parser.specs.Declarations.{SpellsActionIndex, SpellsParam, SpellsLocal, SpellsExtract, SpellsCase, SpellsNext, SpellsState, SpellsLastParameters, SpellsParserParameters, SpellsControlParameters, SpellsDeclaration, SpellsProgram}
 use Rattle.p4_statements.proofs.StatementsWithin.{plains_stay, stmts_within}
 use Rattle.p4_tables.proofs.TablesWithin.{set_stays, table_stays}
 
@@ -41,11 +41,14 @@ next_stays depth (PlainNext.Select of cases) = stays_both (stays_reserved (codes
 pub state_stays : (depth : ℕ) (state : PlainState) → Stays depth (SpellsState depth state)
 state_stays depth state = stays_both (stays_reserved (codes "state")) (stays_both (stays_named state.name) (stays_curly depth (λ inner. Each (SpellsExtract inner) state.extracts ⨟ Reserved (codes "transition") ⨟ SpellsNext inner state.next) (λ inner. stays_both (stays_each (SpellsExtract inner) (extract_stays inner) state.extracts) (stays_both (stays_reserved (codes "transition")) (next_stays inner state.next)))))
 
+last_parameters_stay : {depth : ℕ} → Stays depth SpellsLastParameters
+last_parameters_stay = stays_both (stays_named (codes "headers_t")) (stays_both (stays_named (codes "hdr")) (stays_both (stays_sign (codes ",") refl refl) (stays_both (stays_reserved (codes "inout")) (stays_both (stays_named (codes "meta_t")) (stays_both (stays_named (codes "meta")) (stays_both (stays_sign (codes ",") refl refl) (stays_both (stays_reserved (codes "inout")) (stays_both (stays_named (codes "std_t")) (stays_named (codes "std"))))))))))
+
 pub parser_parameters_stay : {depth : ℕ} → Stays depth SpellsParserParameters
-parser_parameters_stay = stays_both (stays_named (codes "packet_in")) (stays_both (stays_named (codes "pkt")) (stays_both (stays_sign (codes ",") refl refl) (stays_both (stays_reserved (codes "out")) (stays_both (stays_named (codes "headers_t")) (stays_both (stays_named (codes "hdr")) (stays_both (stays_sign (codes ",") refl refl) (stays_both (stays_reserved (codes "inout")) (stays_both (stays_named (codes "meta_t")) (stays_both (stays_named (codes "meta")) (stays_both (stays_sign (codes ",") refl refl) (stays_both (stays_reserved (codes "inout")) (stays_both (stays_named (codes "std_t")) (stays_named (codes "std"))))))))))))))
+parser_parameters_stay = stays_both (stays_named (codes "packet_in")) (stays_both (stays_named (codes "pkt")) (stays_both (stays_sign (codes ",") refl refl) (stays_both (stays_reserved (codes "out")) last_parameters_stay)))
 
 pub control_parameters_stay : {depth : ℕ} → Stays depth SpellsControlParameters
-control_parameters_stay = stays_both (stays_reserved (codes "inout")) (stays_both (stays_named (codes "headers_t")) (stays_both (stays_named (codes "hdr")) (stays_both (stays_sign (codes ",") refl refl) (stays_both (stays_reserved (codes "inout")) (stays_both (stays_named (codes "meta_t")) (stays_both (stays_named (codes "meta")) (stays_both (stays_sign (codes ",") refl refl) (stays_both (stays_reserved (codes "inout")) (stays_both (stays_named (codes "std_t")) (stays_named (codes "std")))))))))))
+control_parameters_stay = stays_both (stays_reserved (codes "inout")) last_parameters_stay
 
 pub declaration_stays : (depth : ℕ) (decl : PlainDecl) → Stays depth (SpellsDeclaration depth decl)
 declaration_stays depth (PlainDecl.Parser name states) = stays_both (stays_reserved (codes "parser")) (stays_both (stays_named name) (stays_both (stays_round depth (λ _. SpellsParserParameters) (λ _. parser_parameters_stay)) (stays_curly depth (λ inner. Each (SpellsState inner) states) (λ inner. stays_each (SpellsState inner) (state_stays inner) states))))

@@ -1,8 +1,8 @@
 -- A program has no more declarations than words, since each declaration begins with a word.
-use Rattle.std.proofs.Common.{◌≡◌, ℕ, ◌+◌, ◌≤◌, List, [], ◌∷◌, ◌++◌, length, length-append, ap, ◌∙◌, arith}
+use Rattle.std.proofs.Common.{ℕ, ◌≤◌, List, [], ◌∷◌, length, length-append, ap, ◌∙◌, arith}
 use Rattle.elastic_ast.specs.Tree.{PlainDecl, PlainProgram}
 use Rattle.spelling.specs.Words.{Word}
-use Rattle.spelling.specs.Grammar.{One, Sequence, ◌⨟◌, Grammar}
+use Rattle.spelling.specs.Grammar.{One, ◌⨟◌, Grammar}
 use Rattle.p4_declarations.specs.Flat.{SpellsFlat}
 use Rattle.p4_parser.specs.Declarations.{SpellsDeclaration, SpellsProgram}
 
@@ -17,18 +17,9 @@ first_word s =
 
 flat_word : (depth : ℕ) (decl : PlainDecl) (ws : List Word) → SpellsFlat depth decl ws → 1 ≤ length ws
 flat_word depth (PlainDecl.Include file) ws s = one_word s.1
-flat_word depth (PlainDecl.Symbol symbol) ws s = first_word s
-flat_word depth (PlainDecl.Assume comps) ws s = first_word s
-flat_word depth (PlainDecl.Maximize terms) ws s = first_word s
-flat_word depth (PlainDecl.Const name width value) ws s = first_word s
-flat_word depth (PlainDecl.Header name fields) ws s = first_word s
-flat_word depth (PlainDecl.Headers members) ws s = first_word s
-flat_word depth (PlainDecl.Meta fields) ws s = first_word s
-flat_word depth (PlainDecl.Register name width cells size) ws s = first_word s
 flat_word depth (PlainDecl.Parser name states) ws s = absurd s
 flat_word depth (PlainDecl.Control name locals body) ws s = absurd s
-flat_word depth (PlainDecl.Deparser name emits) ws s = first_word s
-flat_word depth (PlainDecl.Main parser control deparser) ws s = first_word s
+flat_word depth other ws s = first_word s
 
 declaration_word : (depth : ℕ) (decl : PlainDecl) (ws : List Word) → SpellsDeclaration depth decl ws → 1 ≤ length ws
 declaration_word depth (PlainDecl.Parser name states) ws s = first_word s

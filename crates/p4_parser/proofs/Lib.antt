@@ -6,6 +6,7 @@ pub mod DeclarationsDeeper
 pub mod NestedConditions
 pub mod Refused
 pub mod Reaching
+pub mod Heads
 pub mod DeclarationTrees
 pub mod Cutting
 pub mod WorkedTrees

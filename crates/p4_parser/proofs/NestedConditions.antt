@@ -67,12 +67,7 @@ abbrev mutual
   levels (PlainStmt.If condition then_stmts) = suc (levels_of then_stmts)
   levels (PlainStmt.IfElse condition then_stmts else_stmts) = suc (max (levels_of then_stmts) (levels_of else_stmts))
   levels (PlainStmt.For index size body) = suc (levels_of body)
-  levels (PlainStmt.Assign to value) = 0
-  levels (PlainStmt.Read to register cell) = 0
-  levels (PlainStmt.Write register cell value) = 0
-  levels (PlainStmt.Valid header on) = 0
-  levels (PlainStmt.Call action index arguments) = 0
-  levels (PlainStmt.Apply table) = 0
+  levels other = 0
 
   pub levels_of : PlainStmts → ℕ
   levels_of PlainStmts.nil = 0
@@ -83,12 +78,7 @@ plain_levels depth (PlainStmt.Assign to value) ws h = omega arith
 plain_levels depth (PlainStmt.Read to register cell) ws h = omega arith
 plain_levels depth (PlainStmt.Write register cell value) ws h = omega arith
 plain_levels depth (PlainStmt.Valid header on) ws h = omega arith
-plain_levels depth (PlainStmt.Block stage body) ws h = absurd h
-plain_levels depth (PlainStmt.If condition then_stmts) ws h = absurd h
-plain_levels depth (PlainStmt.IfElse condition then_stmts else_stmts) ws h = absurd h
-plain_levels depth (PlainStmt.For index size body) ws h = absurd h
-plain_levels depth (PlainStmt.Call action index arguments) ws h = absurd h
-plain_levels depth (PlainStmt.Apply table) ws h = absurd h
+plain_levels depth other ws h = absurd h
 
 -- whatever the words are, they need so great a depth
 mutual

@@ -4,7 +4,7 @@ use Rattle.p4_parser.specs.Reading.{NextHasFew}
 use Rattle.std.proofs.Common.{◌≡◌, ℕ, ◌≤◌, List, All, Result, codes, refl, sym, ap, ◌∙◌, inl, inr}
 use Rattle.std.proofs.lemmas.Bool.{false≢true}
 use Rattle.elastic_ast.specs.Seen.{seen_next}
-use Rattle.elastic_ast.specs.Tree.{Name, PlainDecl, PlainExpr, PlainKeyset, PlainNext, PlainState}
+use Rattle.elastic_ast.specs.Tree.{Name, PlainExpr, PlainKeyset, PlainNext, PlainState}
 use Rattle.elastic_ast.specs.declared.declarations.Next.{Next}
 use Rattle.spelling.specs.Words.{Word}
 use Rattle.spelling.specs.Grammar.{Grammar, ◌⨟◌, Begins, IsReserved, IsSign, Named, Reserved, Sign, is_reserved}
@@ -67,6 +67,3 @@ a_state name body = record { name = name; extracts = body.0; next = body.1 }
 
 pub same_state : {n k : Name} {b d : List Name × PlainNext} → n ≡ k → b ≡ d → a_state n b ≡ a_state k d
 same_state {k = k} {b = b} e f = ap (λ n. a_state n b) e ∙ ap (a_state k) f
-
-pub same_parser : {n k : Name} {s t : List PlainState} → n ≡ k → s ≡ t → PlainDecl.Parser n s ≡ PlainDecl.Parser k t
-same_parser {k = k} {s = s} e f = ap (λ x. PlainDecl.Parser x s) e ∙ ap (PlainDecl.Parser k) f

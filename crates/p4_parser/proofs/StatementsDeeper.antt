@@ -20,12 +20,7 @@ plain_deeper depth more (PlainStmt.Write register cell value) le =
     (under_both (under_bracketed (codes "(") (codes ")") depth more (λ inner. SpellsExpr inner cell ⨟ Sign (codes ",") ⨟ SpellsExpr inner value) (λ inner. SpellsExpr inner cell ⨟ Sign (codes ",") ⨟ SpellsExpr inner value) le (λ i j k. under_both (expr_deeper i j cell k) (under_both (itself (Sign (codes ","))) (expr_deeper i j value k)))) (itself (Sign (codes ";"))))))
 plain_deeper depth more (PlainStmt.Valid header on) le =
     under_both (itself (SpellsHeader header)) (under_both (itself (Sign (codes "."))) (under_both (itself (SpellsValidity on)) (under_both (no_arguments_deeper depth more le) (itself (Sign (codes ";"))))))
-plain_deeper depth more (PlainStmt.Block stage body) le = λ ws h. absurd h
-plain_deeper depth more (PlainStmt.If condition then_stmts) le = λ ws h. absurd h
-plain_deeper depth more (PlainStmt.IfElse condition then_stmts else_stmts) le = λ ws h. absurd h
-plain_deeper depth more (PlainStmt.For index size body) le = λ ws h. absurd h
-plain_deeper depth more (PlainStmt.Call action index arguments) le = λ ws h. absurd h
-plain_deeper depth more (PlainStmt.Apply table) le = λ ws h. absurd h
+plain_deeper depth more other le = λ ws h. absurd h
 
 pub plains_deeper : (depth more : ℕ) (stmts : PlainStmts) → depth ≤ more → Under (SpellsPlains depth stmts) (SpellsPlains more stmts)
 plains_deeper depth more PlainStmts.nil le = itself Empty

@@ -10,6 +10,8 @@ use Rattle.spelling.specs.Readers.{InCurly, InRound, InSquare}
 use Rattle.p4_declarations.specs.Flat.{SpellsFlat, SpellsOfPacket}
 use Rattle.p4_tables.specs.Tables.{SpellsSet, SpellsTable}
 use Rattle.p4_statements.specs.Statements.{SpellsPlains, SpellsStmts}
+use Rattle.p4_parser.specs.declared.parameters.Owner.{Owner}
+use Rattle.p4_parser.specs.declared.parameters.Owner.TheVariants as owner
 
 -- 'int' N
 abbrev pub SpellsIndexName : Name → Grammar
@@ -79,17 +81,17 @@ SpellsState depth state = Reserved (codes "state") ⨟ Named state.name ⨟ InCu
 abbrev pub SpellsStates : ℕ → List PlainState → Grammar
 SpellsStates depth states = Each (SpellsState depth) states
 
--- 'inout' 'meta_t' 'meta' ',' 'inout' 'std_t' 'std'
+-- last, of a parser and of a control: 'headers_t' 'hdr' ',' 'inout' 'meta_t' 'meta' ',' 'inout' 'std_t' 'std'
 abbrev pub SpellsLastParameters : Grammar
-SpellsLastParameters = Reserved (codes "inout") ⨟ Named (codes "meta_t") ⨟ Named (codes "meta") ⨟ Sign (codes ",") ⨟ Reserved (codes "inout") ⨟ Named (codes "std_t") ⨟ Named (codes "std")
+SpellsLastParameters = Named (codes "headers_t") ⨟ Named (codes "hdr") ⨟ Sign (codes ",") ⨟ Reserved (codes "inout") ⨟ Named (codes "meta_t") ⨟ Named (codes "meta") ⨟ Sign (codes ",") ⨟ Reserved (codes "inout") ⨟ Named (codes "std_t") ⨟ Named (codes "std")
 
--- 'packet_in' 'pkt' ',' 'out' 'headers_t' 'hdr' ',' 'inout' 'meta_t' 'meta' ',' 'inout' 'std_t' 'std'
+-- 'packet_in' 'pkt' ',' 'out' last
 abbrev pub SpellsParserParameters : Grammar
-SpellsParserParameters = Named (codes "packet_in") ⨟ Named (codes "pkt") ⨟ Sign (codes ",") ⨟ Reserved (codes "out") ⨟ Named (codes "headers_t") ⨟ Named (codes "hdr") ⨟ Sign (codes ",") ⨟ SpellsLastParameters
+SpellsParserParameters = Named (codes "packet_in") ⨟ Named (codes "pkt") ⨟ Sign (codes ",") ⨟ Reserved (codes "out") ⨟ SpellsLastParameters
 
--- 'inout' 'headers_t' 'hdr' ',' 'inout' 'meta_t' 'meta' ',' 'inout' 'std_t' 'std'
+-- 'inout' last
 abbrev pub SpellsControlParameters : Grammar
-SpellsControlParameters = Reserved (codes "inout") ⨟ Named (codes "headers_t") ⨟ Named (codes "hdr") ⨟ Sign (codes ",") ⨟ SpellsLastParameters
+SpellsControlParameters = Reserved (codes "inout") ⨟ SpellsLastParameters
 
 -- 'apply' '{' stmt* '}'
 abbrev pub SpellsApplyBlock : ℕ → PlainStmts → Grammar
@@ -102,19 +104,21 @@ SpellsLocals depth locals = Each (SpellsLocal depth) locals
 abbrev pub SpellsContents : ℕ → List PlainLocal × PlainStmts → Grammar
 SpellsContents depth contents = SpellsLocals depth contents.0 ⨟ SpellsApplyBlock depth contents.1
 
--- the parameters of a parser and of a control, between brackets
-abbrev pub InParser : ℕ → Unit {0} → Grammar
-InParser depth none = SpellsParserParameters
+-- the parameters of a parser and of a control
+abbrev pub SpellsParameters : Owner → Grammar
+SpellsParameters owner.Parser = SpellsParserParameters
+SpellsParameters owner.Control = SpellsControlParameters
 
-abbrev pub InControl : ℕ → Unit {0} → Grammar
-InControl depth none = SpellsControlParameters
+-- the same between brackets
+abbrev pub InParameters : Owner → ℕ → Unit {0} → Grammar
+InParameters of depth none = SpellsParameters of
 
 -- A declaration; one that is flat, or
 --   'parser' N '(' parameters ')' '{' state* '}'
 --   | 'control' N '(' parameters ')' '{' local* 'apply' '{' stmt* '}' '}'
 abbrev pub SpellsDeclaration : ℕ → PlainDecl → Grammar
-SpellsDeclaration depth (PlainDecl.Parser name states) = Reserved (codes "parser") ⨟ Named name ⨟ InRound InParser depth tt ⨟ InCurly SpellsStates depth states
-SpellsDeclaration depth (PlainDecl.Control name locals body) = Reserved (codes "control") ⨟ Named name ⨟ InRound InControl depth tt ⨟ InCurly SpellsContents depth (locals, body)
+SpellsDeclaration depth (PlainDecl.Parser name states) = Reserved (codes "parser") ⨟ Named name ⨟ InRound (InParameters owner.Parser) depth tt ⨟ InCurly SpellsStates depth states
+SpellsDeclaration depth (PlainDecl.Control name locals body) = Reserved (codes "control") ⨟ Named name ⨟ InRound (InParameters owner.Control) depth tt ⨟ InCurly SpellsContents depth (locals, body)
 SpellsDeclaration depth decl = SpellsFlat depth decl
 
 -- program := decl*

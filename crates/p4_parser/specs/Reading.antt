@@ -11,12 +11,12 @@ use Rattle.elastic_ast.specs.Tree.{Name, PlainAction, PlainDecl, PlainExpr, Plai
 use Rattle.spelling.specs.Words.{Word}
 use Rattle.spelling.specs.Grammar.{Grammar, Begins, IsNamed, IsReserved, IsSign}
 use Rattle.spelling.specs.Bounds.{Opens}
-use Rattle.spelling.specs.Readers.{ClosesNext, InCurly, ReadsFew, ReadsFewUpTo}
+use Rattle.spelling.specs.Readers.{ClosesNext, InCurly, ReadsFew, ReadsFewMade, ReadsFewUpTo}
 use Rattle.spelling.specs.declared.error.SyntaxError.{SyntaxError}
 use Rattle.spelling.specs.declared.reader.Reader.{Reader}
 use Rattle.p4_expr.specs.Passing.{BoundPassed}
 use Rattle.p4_statements.specs.ExpressionsIn.{expressions_of_all}
-use Rattle.p4_statements.specs.Reading.{HaveFew, ReadsFewMade}
+use Rattle.p4_statements.specs.Reading.{HaveFew}
 use Rattle.p4_parser.specs.Declarations.{SpellsApplyBlock, SpellsContents, SpellsDeclaration, SpellsLocals, SpellsNext, SpellsStateBody}
 use Rattle.p4_parser.specs.Reaching.{ProgramPassed, Reaches}
 use Rattle.p4_expr.specs.Expressions.{HasFewOperators}
@@ -70,8 +70,8 @@ a_select of = PlainNext.Select of.0 of.1
 abbrev pub a_parser : Name × List PlainState → PlainDecl
 a_parser of = PlainDecl.Parser of.0 of.1
 
-abbrev pub a_control : Name × List PlainLocal × PlainStmts → PlainDecl
-a_control of = PlainDecl.Control of.0 of.1 of.2
+abbrev pub a_control : Name × (List PlainLocal × PlainStmts) → PlainDecl
+a_control of = PlainDecl.Control of.0 of.1.0 of.1.1
 
 -- an action or a table stands first
 abbrev pub BeginsLocal : List Word → Type 0

@@ -1,10 +1,9 @@
 //! Actions.
 
 ghost use Rattle.elastic_ast.specs.Seen.{seen_action, seen_stmts};
-ghost use Rattle.spelling.specs.Readers.{itself, Reads, ReadsUpTo, ReadsWithin};
+ghost use Rattle.spelling.specs.Readers.{EndsRound, Reads, ReadsUpTo, ReadsWithin, ReadsWordsUpTo, itself};
 ghost use Rattle.p4_statements.specs.Reading.{HaveFew};
 ghost use Rattle.p4_statements.specs.Statements.{SpellsPlains};
-ghost use Rattle.p4_tables.specs.Reading.{EndsRound, ReadsWordsUpTo};
 ghost use Rattle.p4_parser.specs.Declarations.{SpellsAction, SpellsActionIndex, SpellsIndexName, SpellsParam, SpellsParamList, SpellsParams};
 ghost use Rattle.p4_parser.specs.Reading.{ActionHasFew, OpensNextRound, ReadsBlock, ReadsPart};
 
@@ -12,7 +11,7 @@ use elastic_ast::{Action, Param, Stmt};
 use elx_bits::{Items, Name};
 use p4_expr::bits;
 use p4_statements::plain_statements;
-use spelling::{Reader, SyntaxError, in_brackets, separated};
+use spelling::{Brackets, Reader, SyntaxError, commas};
 use std::alloc::Global;
 
 /// Reads `action NAME(PARAMETERS) { STATEMENTS }` or `action NAME[int INDEX](PARAMETERS) { STATEMENTS }`. `depth` is how many
@@ -44,13 +43,7 @@ fn action_index(
     if !reader.is_at_sign(b"[") {
         return Ok(None);
     }
-    let name = in_brackets(
-        reader,
-        b"[",
-        b"]",
-        depth,
-        |reader, _| index_name(alloc, reader),
-    )?;
+    let name = Brackets::Square(depth).around(reader, |reader, _| index_name(alloc, reader))?;
     Ok(Some(name))
 }
 
@@ -67,23 +60,14 @@ fn index_name(alloc: Global, reader: &mut Reader<'_>) -> Result<Name, SyntaxErro
 fn params(alloc: Global, reader: &mut Reader<'_>, depth: u32) -> Result<Items<Param>, SyntaxError>
     ensures { ReadsWithin SpellsParams itself depth reader.old reader.new result }
 {
-    in_brackets(
-        reader,
-        b"(",
-        b")",
-        depth,
-        |reader, _| param_list(alloc, reader),
-    )
+    Brackets::Round(depth).around(reader, |reader, _| param_list(alloc, reader))
 }
 
 /// Parameters with a comma between each two, perhaps none, up to the closing bracket.
 fn param_list(alloc: Global, reader: &mut Reader<'_>) -> Result<Items<Param>, SyntaxError>
     ensures { ReadsWordsUpTo EndsRound SpellsParamList itself reader.old reader.new result }
 {
-    if reader.is_at_sign(b")") {
-        return Ok(Items::new(alloc));
-    }
-    separated(alloc, reader, b",", |reader| param(alloc, reader))
+    commas(alloc, reader, |reader| param(alloc, reader))
 }
 
 /// `bit<WIDTH> NAME`
@@ -99,11 +83,8 @@ fn param(alloc: Global, reader: &mut Reader<'_>) -> Result<Param, SyntaxError>
 fn body(alloc: Global, reader: &mut Reader<'_>, depth: u32) -> Result<Items<Stmt>, SyntaxError>
     ensures { ReadsBlock SpellsPlains seen_stmts HaveFew 1 depth reader.old reader.new result }
 {
-    in_brackets(
+    Brackets::Curly(depth).around(
         reader,
-        b"{",
-        b"}",
-        depth,
         |reader, inner| plain_statements(alloc, reader, inner),
     )
 }

@@ -1,9 +1,8 @@
 //! Where a state of a parser goes.
 
 ghost use Rattle.elastic_ast.specs.Seen.{seen_case, seen_keyset, seen_next};
-ghost use Rattle.spelling.specs.Readers.{ClosesNext, InCurly, Reads, ReadsBefore, ReadsWithin};
+ghost use Rattle.spelling.specs.Readers.{ClosesNext, InCurly, Reads, ReadsBefore, ReadsWithin, ReadsWordsUpTo};
 ghost use Rattle.p4_tables.specs.GoesOn.{EndsSet};
-ghost use Rattle.p4_tables.specs.Reading.{ReadsWordsUpTo};
 ghost use Rattle.p4_parser.specs.Declarations.{SpellsCase, CasesIn, SpellsCases, SpellsCaseSet, SpellsNext};
 ghost use Rattle.p4_parser.specs.Reading.{NextHasFew, ReadsPart, ReadsSelect, seen_cases};
 
@@ -11,7 +10,7 @@ use elastic_ast::{Keyset, Next};
 use elx_bits::{Items, Name};
 use p4_statements::bracketed;
 use p4_tables::set;
-use spelling::{Reader, SyntaxError, in_brackets, until};
+use spelling::{Brackets, Reader, SyntaxError, until_closed};
 use std::alloc::Global;
 
 /// Reads where a state goes: `NAME;` or `select (EXPRESSION) { CASES }`. `depth` is how many brackets may be open from here on.
@@ -46,14 +45,14 @@ fn case_block(
 ) -> Result<Items<(Keyset, Name)>, SyntaxError>
     ensures { ReadsWithin (InCurly CasesIn) seen_cases depth reader.old reader.new result }
 {
-    in_brackets(reader, b"{", b"}", depth, |reader, _| cases(alloc, reader))
+    Brackets::Curly(depth).around(reader, |reader, _| cases(alloc, reader))
 }
 
 /// Reads cases up to the closing bracket.
 fn cases(alloc: Global, reader: &mut Reader<'_>) -> Result<Items<(Keyset, Name)>, SyntaxError>
     ensures { ReadsWordsUpTo ClosesNext SpellsCases seen_cases reader.old reader.new result }
 {
-    until(alloc, reader, b"}", |reader| case(alloc, reader))
+    until_closed(alloc, reader, |reader| case(alloc, reader))
 }
 
 /// `SET: NAME;`

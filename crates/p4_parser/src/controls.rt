@@ -3,17 +3,16 @@
 ghost use Rattle.std.specs.Prelude.{◌↔◌, IsTrue};
 ghost use Rattle.elastic_ast.specs.Seen.{seen_local};
 ghost use Rattle.spelling.specs.Reading.{ahead};
-ghost use Rattle.spelling.specs.Readers.{InRound, itself, Reads, ReadsWithin};
-ghost use Rattle.p4_parser.specs.Declarations.{InControl, SpellsControlParameters, SpellsLocal};
+ghost use Rattle.p4_parser.specs.Declarations.{SpellsLocal};
 ghost use Rattle.p4_parser.specs.Reading.{BeginsLocal, LocalHasFew, ReadsApplyBlock, ReadsContents, ReadsContentParts, ReadsControl, ReadsLocals, ReadsPart};
 
 use crate::actions::action;
-use crate::states::last_parameters;
+use crate::parameters::Owner;
 use elastic_ast::{Decl, Local, Stmt};
 use elx_bits::Items;
 use p4_statements::statements;
 use p4_tables::table;
-use spelling::{Reader, SyntaxError, in_brackets, keep};
+use spelling::{Brackets, Reader, SyntaxError, keep};
 use std::alloc::Global;
 
 /// Reads `control NAME (PARAMETERS) { LOCALS apply { STATEMENTS } }`, where it is no deparser. `depth` is how many brackets may
@@ -26,35 +25,9 @@ pub fn control(alloc: Global, reader: &mut Reader<'_>, depth: u32) -> Result<Dec
 {
     reader.reserved(b"control")?;
     let name = reader.name(alloc)?;
-    parameters(reader, depth)?;
+    Owner::Control.parameters(reader, depth)?;
     let (locals, body) = contents(alloc, reader, depth)?;
     Ok(Decl::Control { name, locals, body })
-}
-
-/// `(inout headers_t hdr, inout meta_t meta, inout std_t std)`
-fn parameters(reader: &mut Reader<'_>, depth: u32) -> Result<(), SyntaxError>
-    ensures { ReadsWithin (InRound InControl) itself depth reader.old reader.new result }
-{
-    in_brackets(
-        reader,
-        b"(",
-        b")",
-        depth,
-        |reader, _inner|
-            ensures { Reads (λ _. SpellsControlParameters) itself reader.old reader.new result }
-        { parameter_words(reader) },
-    )
-}
-
-/// `inout headers_t hdr, inout meta_t meta, inout std_t std`
-fn parameter_words(reader: &mut Reader<'_>) -> Result<(), SyntaxError>
-    ensures { Reads (λ _. SpellsControlParameters) itself reader.old reader.new result }
-{
-    reader.reserved(b"inout")?;
-    reader.fixed_name(b"headers_t")?;
-    reader.fixed_name(b"hdr")?;
-    reader.sign(b",")?;
-    last_parameters(reader)
 }
 
 /// `{ LOCALS apply { STATEMENTS } }`
@@ -65,13 +38,7 @@ fn contents(
 ) -> Result<(Items<Local>, Items<Stmt>), SyntaxError>
     ensures { ReadsContents depth reader.old reader.new result }
 {
-    in_brackets(
-        reader,
-        b"{",
-        b"}",
-        depth,
-        |reader, inner| content_parts(alloc, reader, inner),
-    )
+    Brackets::Curly(depth).around(reader, |reader, inner| content_parts(alloc, reader, inner))
 }
 
 /// `LOCALS apply { STATEMENTS }`
@@ -127,11 +94,5 @@ fn apply_block(
     ensures { ReadsApplyBlock depth reader.old reader.new result }
 {
     reader.fixed_name(b"apply")?;
-    in_brackets(
-        reader,
-        b"{",
-        b"}",
-        depth,
-        |reader, inner| statements(alloc, reader, inner),
-    )
+    Brackets::Curly(depth).around(reader, |reader, inner| statements(alloc, reader, inner))
 }

@@ -6,6 +6,7 @@ mod cases;
 mod controls;
 mod grammar_examples;
 mod grammar_laws;
+mod parameters;
 mod parsing;
 mod states;
 

@@ -123,12 +123,7 @@ by_plain more Answer (PlainStmt.Assign to value) m f g h k = f to value m
 by_plain more Answer (PlainStmt.Read to register cell) m f g h k = g to register cell m
 by_plain more Answer (PlainStmt.Write register cell value) m f g h k = h register cell value m
 by_plain more Answer (PlainStmt.Valid header on) m f g h k = k header on m
-by_plain more Answer (PlainStmt.Block stage body) m f g h k = absurd m.spelled
-by_plain more Answer (PlainStmt.If condition body) m f g h k = absurd m.spelled
-by_plain more Answer (PlainStmt.IfElse condition body other) m f g h k = absurd m.spelled
-by_plain more Answer (PlainStmt.For index size body) m f g h k = absurd m.spelled
-by_plain more Answer (PlainStmt.Call action index args) m f g h k = absurd m.spelled
-by_plain more Answer (PlainStmt.Apply table) m f g h k = absurd m.spelled
+by_plain more Answer _ m f g h k = absurd m.spelled
 
 index_first : (more : ℕ) (index : Name) {Q : Grammar} {b c : List Word} → MayTake (Bracketed (codes "[") (codes "]") more (λ _. Named index) ⨟ Q) b c → Begins (IsSign (codes "[")) b × Begins (λ word. word.kind ≡ kind.Name) (drop 1 b)
 index_first zero index m = absurd (split m).first.spelled
@@ -270,23 +265,9 @@ apply_words more table {a = a} m =
 pub by_simple : (more : ℕ) (Answer : PlainStmt → Type 0) (stmt : PlainStmt) {a c : List Word} → MayTake (SpellsSimple more stmt) a c → ((action : Name) (index : Option Name) (args : List PlainExpr) → MayTake (SpellsCall more action index args) a c → Answer (PlainStmt.Call action index args)) → ((table : Name) → MayTake (SpellsApply more table) a c → Answer (PlainStmt.Apply table)) → ((plain : PlainStmt) → MayTake (SpellsPlain more plain) a c → Answer plain) → Answer stmt
 by_simple more Answer (PlainStmt.Call action index args) m f g h = f action index args m
 by_simple more Answer (PlainStmt.Apply table) m f g h = g table m
-by_simple more Answer (PlainStmt.Assign to value) m f g h = h (PlainStmt.Assign to value) m
-by_simple more Answer (PlainStmt.Read to register cell) m f g h = h (PlainStmt.Read to register cell) m
-by_simple more Answer (PlainStmt.Write register cell value) m f g h = h (PlainStmt.Write register cell value) m
-by_simple more Answer (PlainStmt.Valid header on) m f g h = h (PlainStmt.Valid header on) m
-by_simple more Answer (PlainStmt.Block stage body) m f g h = absurd m.spelled
-by_simple more Answer (PlainStmt.If condition body) m f g h = absurd m.spelled
-by_simple more Answer (PlainStmt.IfElse condition body other) m f g h = absurd m.spelled
-by_simple more Answer (PlainStmt.For index size body) m f g h = absurd m.spelled
+by_simple more Answer stmt m f g h = h stmt m
 
 pub plain_simple : (depth : ℕ) (stmt : PlainStmt) (ws : List Word) → SpellsPlain depth stmt ws → SpellsSimple depth stmt ws
 plain_simple depth (PlainStmt.Call action index args) ws h = absurd h
 plain_simple depth (PlainStmt.Apply table) ws h = absurd h
-plain_simple depth (PlainStmt.Assign to value) ws h = h
-plain_simple depth (PlainStmt.Read to register cell) ws h = h
-plain_simple depth (PlainStmt.Write register cell value) ws h = h
-plain_simple depth (PlainStmt.Valid header on) ws h = h
-plain_simple depth (PlainStmt.Block stage body) ws h = h
-plain_simple depth (PlainStmt.If condition body) ws h = h
-plain_simple depth (PlainStmt.IfElse condition body other) ws h = h
-plain_simple depth (PlainStmt.For index size body) ws h = h
+plain_simple depth _ ws h = h

@@ -13,7 +13,7 @@ use Rattle.spelling.proofs.Taking.{may, takes_as}
 use Rattle.p4_expr.specs.Expressions.{HasFewOperators, SpellsExpr}
 use Rattle.p4_expr.specs.GoesOn.{expression_signs, EndsIndex}
 use Rattle.p4_statements.proofs.ExprFirst.{expr_first, no_closing}
-use Rattle.p4_statements.proofs.Lists.{all_back}
+use Rattle.spelling.proofs.AllOf.{all_back}
 
 pub no_comma : (ws : List Word) → Begins (IsSign (codes ")")) ws → Begins (IsSign (codes ",")) ws → ⊥
 no_comma ws closing comma = no_sign (codes ")") (codes ",") ws refl closing comma

@@ -3,7 +3,7 @@ use Rattle.spelling.proofs.Limits.{inside}
 use Rattle.std.proofs.Common.{◌≡◌, ℕ, suc, Bool, true, false, List, ◌++◌, codes, bytes_eq, refl, ap, subst, ◌∙◌, append_assoc}
 use Rattle.elastic_ast.specs.declared.statements.Lval.{Lval}
 use Rattle.elastic_ast.specs.declared.statements.Lval.TheVariants as lval
-use Rattle.elastic_ast.specs.OperatorSorts.{Operator, Or, And, Equal, Differ, Less, AtMost, Greater, AtLeast, BitOr, BitXor, BitAnd, ShiftUp, ShiftDown, Plus, Minus, Join, Times, Turn, Negate, NoOperator}
+use Rattle.elastic_ast.specs.OperatorSorts.{Operator, Turn, Negate, NoOperator}
 use Rattle.elastic_ast.specs.Tree.{PlainExpr}
 use Rattle.spelling.specs.Words.{Word}
 use Rattle.spelling.specs.Grammar.{Grammar, ◌⨟◌, Named, Sign, Begins, IsSign, is_sign}
@@ -21,26 +21,10 @@ pub record NoFirst (sign : List ℕ) : Type 0 where
   pub no_negation : bytes_eq (codes "!") sign ≡ false
 
 prefix_first : (operator : Operator) {sign : List ℕ} (ws rest : List Word) → NoFirst sign → level_of operator ≡ 0 → SpellsOperator operator ws → Begins (IsSign sign) (ws ++ rest) → ⊥
-prefix_first Or ws rest n e h at = absurd cc
-prefix_first And ws rest n e h at = absurd cc
-prefix_first Equal ws rest n e h at = absurd cc
-prefix_first Differ ws rest n e h at = absurd cc
-prefix_first Less ws rest n e h at = absurd cc
-prefix_first AtMost ws rest n e h at = absurd cc
-prefix_first Greater ws rest n e h at = absurd cc
-prefix_first AtLeast ws rest n e h at = absurd cc
-prefix_first BitOr ws rest n e h at = absurd cc
-prefix_first BitXor ws rest n e h at = absurd cc
-prefix_first BitAnd ws rest n e h at = absurd cc
-prefix_first ShiftUp ws rest n e h at = absurd cc
-prefix_first ShiftDown ws rest n e h at = absurd cc
-prefix_first Plus ws rest n e h at = absurd cc
-prefix_first Minus ws rest n e h at = absurd cc
-prefix_first Join ws rest n e h at = absurd cc
-prefix_first Times ws rest n e h at = absurd cc
 prefix_first Turn {sign = sign} ws rest n e h at = no_sign (codes "~") sign (ws ++ rest) n.no_turn (begins (put (Sign (codes "~")) ws rest h)) at
 prefix_first Negate {sign = sign} ws rest n e h at = no_sign (codes "!") sign (ws ++ rest) n.no_negation (begins (put (Sign (codes "!")) ws rest h)) at
 prefix_first NoOperator ws rest n e h at = absurd h
+prefix_first _ ws rest n e h at = absurd cc
 
 truth_first : (which : Bool) (sign : List ℕ) (ws rest : List Word) → SpellsTruth which ws → Begins (IsSign sign) (ws ++ rest) → ⊥
 truth_first true sign ws rest h at = not_sign sign (ws ++ rest) (λ word p. reserved_no_sign word.kind p.0) (begins (put (SpellsTruth true) ws rest h)) at
@@ -55,14 +39,14 @@ mutual
   pub level_first : (depth level : ℕ) (e : PlainExpr) (sign : List ℕ) (ws rest : List Word) → NoFirst sign → SpellsLevel depth level e ws → Begins (IsSign sign) (ws ++ rest) → ⊥
   level_first depth level e sign ws rest n (prefixed h) at = prefixed_first depth e sign ws rest n h at
   level_first depth level e sign ws rest n (stronger {level = below} h) at = level_first depth below e sign ws rest n h at
-  level_first depth level e sign ws rest n (binary {level = below} {left = left} operator front middle back is l s r j) at =
+  level_first depth level e sign ws rest n (binary {level = below} {left = left} _ front middle back is l s r j) at =
       let same : ws ++ rest ≡ front ++ (middle ++ (back ++ rest)) = ap (λ l. l ++ rest) j ∙ append_assoc (front ++ middle) back rest ∙ append_assoc front middle (back ++ rest) in
       level_first depth (suc below) left sign front (middle ++ (back ++ rest)) n l (subst (Begins (IsSign sign)) same at)
 
   prefixed_first : (depth : ℕ) (e : PlainExpr) (sign : List ℕ) (ws rest : List Word) → NoFirst sign → SpellsPrefixed depth e ws → Begins (IsSign sign) (ws ++ rest) → ⊥
   prefixed_first depth e sign ws rest n (primary h) at = primary_first depth e sign ws rest n h at
-  prefixed_first depth e sign ws rest n (unary operator front back is s h j) at =
-      prefix_first operator front (back ++ rest) n is.level_is s (subst (Begins (IsSign sign)) (joined_as front back rest j) at)
+  prefixed_first depth e sign ws rest n (unary op front back is s h j) at =
+      prefix_first op front (back ++ rest) n is.level_is s (subst (Begins (IsSign sign)) (joined_as front back rest j) at)
   prefixed_first depth e sign ws rest n (cast {width = width} front back s h j) at =
       no_sign (codes "(") sign (front ++ (back ++ rest)) n.no_bracket (cast_begins depth width front (back ++ rest) s) (subst (Begins (IsSign sign)) (joined_as front back rest j) at)
 

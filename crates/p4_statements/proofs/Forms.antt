@@ -11,12 +11,22 @@ use Rattle.p4_statements.specs.Statements.{SpellsApply, SpellsBranch, SpellsCall
 use Rattle.p4_statements.specs.Reading.{EndsStmt, SpellsSimple}
 use Rattle.p4_statements.proofs.Ahead.{by_simple, plain_first, plain_simple}
 
--- words in a row
-row_of_four : {ws : List Word} (a b c d : List Word) → ws ≡ a ++ (b ++ (c ++ d)) → ws ≡ a ++ b ++ c ++ d
-row_of_four a b c d e = e ∙ sym (append_assoc a b (c ++ d)) ∙ sym (append_assoc (a ++ b) c d)
+-- four things in a row
+four_in_row : {P Q R S : Grammar} {ws : List Word} (a b c d : List Word) → P a → Q b → R c → S d → ws ≡ a ++ b ++ c ++ d → (P ⨟ Q ⨟ R ⨟ S) ws
+four_in_row a b c d p q r s e =
+    record {
+      front = a;
+      back = b ++ (c ++ d);
+      joined = e ∙ append_assoc (a ++ b) c d ∙ append_assoc a b (c ++ d);
+      first = p;
+      second = record { front = b; back = c ++ d; joined = refl; first = q; second = record { front = c; back = d; joined = refl; first = r; second = s } };
+    }
 
-nested_four : {ws : List Word} (a b c d : List Word) → ws ≡ a ++ b ++ c ++ d → ws ≡ a ++ (b ++ (c ++ d))
-nested_four a b c d e = e ∙ append_assoc (a ++ b) c d ∙ append_assoc a b (c ++ d)
+words_of_four : {P Q R S : Grammar} {ws : List Word} (h : (P ⨟ Q ⨟ R ⨟ S) ws) → ws ≡ h.front ++ h.second.front ++ h.second.second.front ++ h.second.second.back
+words_of_four h =
+    let b = h.second in
+    let s = b.second in
+    h.joined ∙ ap (λ l. h.front ++ l) (b.joined ∙ ap (λ l. b.front ++ l) s.joined) ∙ sym (append_assoc h.front b.front (s.front ++ s.back)) ∙ sym (append_assoc (h.front ++ b.front) s.front s.back)
 
 abbrev pub Braces : ℕ → PlainStmts → Grammar
 Braces depth stmts = Bracketed (codes "{") (codes "}") depth (λ inner. SpellsStmts inner stmts)
@@ -27,14 +37,14 @@ block_of zero stage body ws h = absurd h.second
 block_of (suc depth) stage body ws h =
     let b = h.second in
     let s = b.second in
-    block h.front b.front s.front s.back h.first b.first s.first s.second (row_of_four h.front b.front s.front s.back (h.joined ∙ ap (λ l. h.front ++ l) (b.joined ∙ ap (λ l. b.front ++ l) s.joined)))
+    block h.front b.front s.front s.back h.first b.first s.first s.second (words_of_four h)
 
 pub for_of : (depth : ℕ) (index size : Name) (body : PlainStmts) (ws : List Word) → (SpellsTurns depth index size ⨟ Braces depth body) ws → SpellsStmt depth false (PlainStmt.For index size body) ws
 for_of zero index size body ws h = absurd h.second
 for_of (suc depth) index size body ws h =
     let b = h.second in
     let s = b.second in
-    repeated h.front b.front s.front s.back h.first b.first s.first s.second (row_of_four h.front b.front s.front s.back (h.joined ∙ ap (λ l. h.front ++ l) (b.joined ∙ ap (λ l. b.front ++ l) s.joined)))
+    repeated h.front b.front s.front s.back h.first b.first s.first s.second (words_of_four h)
 
 pub if_of : (depth : ℕ) (open_end : Bool) (condition : PlainExpr) (body : PlainStmts) (ws : List Word) → (SpellsCondition depth condition ⨟ SpellsBranch depth open_end body) ws → SpellsStmt depth true (PlainStmt.If condition body) ws
 if_of depth open_end condition body ws h = without_else h.front h.back h.first h.second h.joined
@@ -43,19 +53,12 @@ pub else_of : (depth : ℕ) (open_end : Bool) (condition : PlainExpr) (body othe
 else_of depth open_end condition body other ws h =
     let b = h.second in
     let s = b.second in
-    with_else h.front b.front s.front s.back h.first b.first s.first s.second (row_of_four h.front b.front s.front s.back (h.joined ∙ ap (λ l. h.front ++ l) (b.joined ∙ ap (λ l. b.front ++ l) s.joined)))
+    with_else h.front b.front s.front s.back h.first b.first s.first s.second (words_of_four h)
 
 pub simple_of : (depth : ℕ) (stmt : PlainStmt) (ws : List Word) → SpellsSimple depth stmt ws → SpellsStmt depth false stmt ws
 simple_of depth (PlainStmt.Call action index args) ws h = called h
 simple_of depth (PlainStmt.Apply table) ws h = applied h
-simple_of depth (PlainStmt.Assign to value) ws h = simple h
-simple_of depth (PlainStmt.Read to register cell) ws h = simple h
-simple_of depth (PlainStmt.Write register cell value) ws h = simple h
-simple_of depth (PlainStmt.Valid header on) ws h = simple h
-simple_of depth (PlainStmt.Block stage body) ws h = absurd h
-simple_of depth (PlainStmt.If condition body) ws h = absurd h
-simple_of depth (PlainStmt.IfElse condition body other) ws h = absurd h
-simple_of depth (PlainStmt.For index size body) ws h = absurd h
+simple_of depth stmt ws h = simple h
 
 pub branch_of : (depth : ℕ) (stmts : PlainStmts) (ws : List Word) → Braces depth stmts ws → SpellsBranch depth false stmts ws
 branch_of zero stmts ws h = absurd h
@@ -110,37 +113,16 @@ block_begins more (Some stage) body m = let s = (split m).first in inr (begins_f
 
 form_of : (more : ℕ) (open_end : Bool) (stmt : PlainStmt) {a c : List Word} (ws : List Word) → a ≡ ws ++ c → SpellsStmt more open_end stmt ws → Form more open_end stmt a c
 form_of (suc depth) open_end stmt {a = a} {c = c} ws e (block {stage = stage} {body = body} front opening inside closing st o i cl j) =
-    let spelled : (SpellsStage (suc depth) stage ⨟ Braces (suc depth) body) ws = record {
-      front = front;
-      back = opening ++ (inside ++ closing);
-      joined = nested_four front opening inside closing j;
-      first = st;
-      second = record { front = opening; back = inside ++ closing; joined = refl; first = o; second = record { front = inside; back = closing; joined = refl; first = i; second = cl } };
-    } in
-    let m : MayTake (SpellsStage (suc depth) stage ⨟ Braces (suc depth) body) a c = record { front = ws; joined = e; spelled = spelled } in
+    let m : MayTake (SpellsStage (suc depth) stage ⨟ Braces (suc depth) body) a c = record { front = ws; joined = e; spelled = four_in_row front opening inside closing st o i cl j } in
     a_block record { stage = stage; body = body; is = refl; parts = m } (block_begins (suc depth) stage body m)
 form_of more open_end stmt {a = a} {c = c} ws e (without_else {open_end = branch_end} {condition = condition} {then_stmts = body} front back cond b j) =
     let m : MayTake (SpellsCondition more condition ⨟ SpellsBranch more branch_end body) a c = record { front = ws; joined = e; spelled = record { front = front; back = back; joined = j; first = cond; second = b } } in
     an_if record { condition = condition; body = body; branch_end = branch_end; is = refl; opened = refl; parts = m } (begins_first (regroup m))
 form_of more open_end stmt {a = a} {c = c} ws e (with_else {condition = condition} {then_stmts = body} {else_stmts = other} front first between second cond b els d j) =
-    let spelled : (SpellsCondition more condition ⨟ SpellsBranch more false body ⨟ Reserved (codes "else") ⨟ SpellsBranch more open_end other) ws = record {
-      front = front;
-      back = first ++ (between ++ second);
-      joined = nested_four front first between second j;
-      first = cond;
-      second = record { front = first; back = between ++ second; joined = refl; first = b; second = record { front = between; back = second; joined = refl; first = els; second = d } };
-    } in
-    let m : MayTake (SpellsCondition more condition ⨟ SpellsBranch more false body ⨟ Reserved (codes "else") ⨟ SpellsBranch more open_end other) a c = record { front = ws; joined = e; spelled = spelled } in
+    let m : MayTake (SpellsCondition more condition ⨟ SpellsBranch more false body ⨟ Reserved (codes "else") ⨟ SpellsBranch more open_end other) a c = record { front = ws; joined = e; spelled = four_in_row front first between second cond b els d j } in
     an_else record { condition = condition; body = body; other = other; is = refl; parts = m } (begins_first (regroup m))
 form_of (suc depth) open_end stmt {a = a} {c = c} ws e (repeated {index = index} {size = size} {body = body} front opening inside closing t o i cl j) =
-    let spelled : (SpellsTurns (suc depth) index size ⨟ Braces (suc depth) body) ws = record {
-      front = front;
-      back = opening ++ (inside ++ closing);
-      joined = nested_four front opening inside closing j;
-      first = t;
-      second = record { front = opening; back = inside ++ closing; joined = refl; first = o; second = record { front = inside; back = closing; joined = refl; first = i; second = cl } };
-    } in
-    let m : MayTake (SpellsTurns (suc depth) index size ⨟ Braces (suc depth) body) a c = record { front = ws; joined = e; spelled = spelled } in
+    let m : MayTake (SpellsTurns (suc depth) index size ⨟ Braces (suc depth) body) a c = record { front = ws; joined = e; spelled = four_in_row front opening inside closing t o i cl j } in
     a_for record { index = index; size = size; body = body; is = refl; parts = m } (begins_first (regroup m))
 form_of more open_end stmt {a = a} {c = c} ws e (called {action = action} {index = index} {arguments = args} h) =
     let m : MayTake (SpellsCall more action index args) a c = record { front = ws; joined = e; spelled = h } in
@@ -235,16 +217,8 @@ stmt_no_else more open_end stmt {a = a} m at =
     ]
 
 plain_bare : (depth : ℕ) (stmt : PlainStmt) (ws : List Word) → SpellsPlain depth stmt ws → is_bare_block stmt ≡ false
-plain_bare depth (PlainStmt.Assign to value) ws h = refl
-plain_bare depth (PlainStmt.Read to register cell) ws h = refl
-plain_bare depth (PlainStmt.Write register cell value) ws h = refl
-plain_bare depth (PlainStmt.Valid header on) ws h = refl
 plain_bare depth (PlainStmt.Block stage body) ws h = absurd h
-plain_bare depth (PlainStmt.If condition body) ws h = refl
-plain_bare depth (PlainStmt.IfElse condition body other) ws h = refl
-plain_bare depth (PlainStmt.For index size body) ws h = refl
-plain_bare depth (PlainStmt.Call action index args) ws h = refl
-plain_bare depth (PlainStmt.Apply table) ws h = refl
+plain_bare depth _ ws h = refl
 
 -- a block's first word says whether it has a stage
 staged_bare : (more : ℕ) (stage : Option ℕ) (body : PlainStmts) {a c : List Word} → MayTake (SpellsStage more stage ⨟ Braces more body) a c → (Begins (IsSign (codes "{")) a → ⊥) → is_bare_block (PlainStmt.Block stage body) ≡ false

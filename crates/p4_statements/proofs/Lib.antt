@@ -10,3 +10,4 @@ pub mod Forms
 pub mod StatementsWithin
 pub mod Lines
 pub mod Begun
+pub mod ToEnd

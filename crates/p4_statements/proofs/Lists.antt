@@ -1,7 +1,7 @@
 -- A list of statements as a list of the library, and how few operators the expressions of its statements have.
 use Rattle.spelling.proofs.Limits.{or_as}
-use Rattle.std.proofs.Common.{◌≡◌, ℕ, Bool, List, [], ◌∷◌, ◌++◌, All, codes, refl, ap, sym, subst, Result, map, ◌∙◌, ◌≤◌, Ok, Err}
-use Rattle.std.proofs.lemmas.List.Elements.{All-append, All-cons, All-head, All-nil, All-tail}
+use Rattle.std.proofs.Common.{◌≡◌, ℕ, Bool, List, [], ◌∷◌, ◌++◌, codes, refl, ap, sym, subst, Result, map, ◌∙◌, ◌≤◌, Ok, Err}
+use Rattle.std.proofs.lemmas.List.Elements.{All-append, All-head, All-nil, All-tail}
 use Rattle.elastic_ast.specs.Tree.{PlainExpr, PlainStmt, PlainStmts}
 use denote.Ref.{MutBor}
 use Rattle.std.specs.Prelude.{OnOk}
@@ -10,6 +10,7 @@ use Rattle.elastic_ast.specs.Seen.{joined, seen_stmt, seen_stmts}
 use Rattle.spelling.specs.Readers.{Until, Ended, Refused, Wanting}
 use Rattle.spelling.specs.declared.error.SyntaxError.{SyntaxError}
 use Rattle.spelling.specs.declared.reader.Reader.{Reader}
+use Rattle.spelling.proofs.AllOf.{all_back, all_front}
 use Rattle.spelling.proofs.ByParts.{EachFew}
 use Rattle.spelling.specs.Words.{Word}
 use Rattle.spelling.specs.Grammar.{Grammar, Begins, Each, IsReserved, IsSign}
@@ -28,14 +29,6 @@ listed (PlainStmts.cons s ss) = s ∷ listed ss
 pub joined_listed : (ss : PlainStmts) → joined (listed ss) ≡ ss
 joined_listed PlainStmts.nil = refl
 joined_listed (PlainStmts.cons s ss) = ap (PlainStmts.cons s) (joined_listed ss)
-
-pub all_front : {A : Type 0} (P : A → Type 0) (xs ys : List A) → All P (xs ++ ys) → All P xs
-all_front P [] ys h = All-nil P
-all_front P (x ∷ xs) ys h = All-cons P x xs (All-head P x (xs ++ ys) h) (all_front P xs ys (All-tail P x (xs ++ ys) h))
-
-pub all_back : {A : Type 0} (P : A → Type 0) (xs ys : List A) → All P (xs ++ ys) → All P ys
-all_back P [] ys h = h
-all_back P (x ∷ xs) ys h = all_back P xs ys (All-tail P x (xs ++ ys) h)
 
 pub few_push : (xs : List PlainStmt) (x : PlainStmt) → HaveFew (joined xs) → HasFew x → HaveFew (joined (xs ++ x ∷ []))
 few_push [] x a b = All-append HasFewOperators (expressions_of x) [] b (All-nil HasFewOperators)

@@ -4,7 +4,7 @@ use Rattle.std.proofs.Common.{◌≡◌, ℕ, zero, suc, Bool, true, false, List
 use Rattle.p4_lexer.specs.declared.token.Kind.TheVariants as kind
 use Rattle.elastic_ast.specs.declared.statements.Lval.{Lval}
 use Rattle.elastic_ast.specs.declared.statements.Lval.TheVariants as lval
-use Rattle.elastic_ast.specs.OperatorSorts.{Operator, Or, And, Equal, Differ, Less, AtMost, Greater, AtLeast, BitOr, BitXor, BitAnd, ShiftUp, ShiftDown, Plus, Minus, Join, Times, Turn, Negate, NoOperator}
+use Rattle.elastic_ast.specs.OperatorSorts.{Operator, ShiftDown, NoOperator}
 use Rattle.elastic_ast.specs.Tree.{Name, PlainExpr}
 use Rattle.spelling.specs.Words.{Word}
 use Rattle.spelling.specs.Grammar.{Grammar, ◌⨟◌, Named, Sign, TwoTouching, Begins, IsSign, is_reserved, is_sign}
@@ -12,7 +12,7 @@ use Rattle.spelling.specs.Reading.{MayTake}
 use Rattle.spelling.proofs.Only.{alone, begins, begins_both, begins_bracketed, begins_first, behind_first, empty_same, no_sign, of_where, opened, regroup, split}
 use Rattle.spelling.proofs.Taking.{may_both}
 use Rattle.p4_expr.specs.Parts.{SpellsBitRange, SpellsCast, SpellsHeader, SpellsIsValid, SpellsLval, SpellsNumber, SpellsTruth}
-use Rattle.p4_expr.specs.Operators.{SpellsOperator, weakest}
+use Rattle.p4_expr.specs.Operators.{SpellsOperator, text_of, weakest}
 use Rattle.p4_expr.specs.Expressions.{SpellsLevel, SpellsPrefixed, SpellsPrimary, SpellsExpr, prefixed, stronger, binary, primary, unary, cast, number, name, truth, place, is_valid, bracketed, hash, slice}
 use Rattle.p4_expr.specs.GoesOn.{EndsIndex}
 use Rattle.p4_expr.proofs.PartSpelling.{ends_index, name_no_number, number_there}
@@ -41,26 +41,9 @@ touching_begins {F = F} rest h = subst (λ l. Begins F (l ++ rest)) (sym h.both)
 
 -- an operator begins with a sign
 operator_begins : (operator : Operator) (ws rest : List Word) → SpellsOperator operator ws → (sign : List ℕ) × Begins (IsSign sign) (ws ++ rest) × (bytes_eq sign (codes ".") ≡ false) × (bytes_eq sign (codes "(") ≡ false) × (bytes_eq sign (codes "[") ≡ false)
-operator_begins Or ws rest h = (codes "||", begins (put (Sign (codes "||")) ws rest h), refl, refl, refl)
-operator_begins And ws rest h = (codes "&&", begins (put (Sign (codes "&&")) ws rest h), refl, refl, refl)
-operator_begins Equal ws rest h = (codes "==", begins (put (Sign (codes "==")) ws rest h), refl, refl, refl)
-operator_begins Differ ws rest h = (codes "!=", begins (put (Sign (codes "!=")) ws rest h), refl, refl, refl)
-operator_begins Less ws rest h = (codes "<", begins (put (Sign (codes "<")) ws rest h), refl, refl, refl)
-operator_begins AtMost ws rest h = (codes "<=", begins (put (Sign (codes "<=")) ws rest h), refl, refl, refl)
-operator_begins Greater ws rest h = (codes ">", begins (put (Sign (codes ">")) ws rest h), refl, refl, refl)
-operator_begins AtLeast ws rest h = (codes ">=", begins (put (Sign (codes ">=")) ws rest h), refl, refl, refl)
-operator_begins BitOr ws rest h = (codes "|", begins (put (Sign (codes "|")) ws rest h), refl, refl, refl)
-operator_begins BitXor ws rest h = (codes "^", begins (put (Sign (codes "^")) ws rest h), refl, refl, refl)
-operator_begins BitAnd ws rest h = (codes "&", begins (put (Sign (codes "&")) ws rest h), refl, refl, refl)
-operator_begins ShiftUp ws rest h = (codes "<<", begins (put (Sign (codes "<<")) ws rest h), refl, refl, refl)
 operator_begins ShiftDown ws rest h = (codes ">", touching_begins rest h, refl, refl, refl)
-operator_begins Plus ws rest h = (codes "+", begins (put (Sign (codes "+")) ws rest h), refl, refl, refl)
-operator_begins Minus ws rest h = (codes "-", begins (put (Sign (codes "-")) ws rest h), refl, refl, refl)
-operator_begins Join ws rest h = (codes "++", begins (put (Sign (codes "++")) ws rest h), refl, refl, refl)
-operator_begins Times ws rest h = (codes "*", begins (put (Sign (codes "*")) ws rest h), refl, refl, refl)
-operator_begins Turn ws rest h = (codes "~", begins (put (Sign (codes "~")) ws rest h), refl, refl, refl)
-operator_begins Negate ws rest h = (codes "!", begins (put (Sign (codes "!")) ws rest h), refl, refl, refl)
 operator_begins NoOperator ws rest h = absurd h
+operator_begins op ws rest h = (text_of op, begins (put (Sign (text_of op)) ws rest h), refl, refl, refl)
 
 -- a sign, a number or a reserved word is no name
 no_name : {F : Word → Type 0} (ws : List Word) → ((word : Word) → F word → word.kind ≡ kind.Name → ⊥) → Begins F ws → IsReadAhead ws → ⊥

@@ -19,12 +19,7 @@ plain_stays depth (PlainStmt.Assign to value) = stays_both (lval_stays depth to)
 plain_stays depth (PlainStmt.Read to register cell) = stays_both (lval_stays depth to) (stays_both (stays_sign (codes "=") refl refl) (stays_both (register_stays depth register) (stays_both (stays_sign (codes ".") refl refl) (stays_both (stays_named (codes "read")) (stays_both (stays_round depth (λ inner. SpellsExpr inner cell) (λ inner. expr_within)) (stays_sign (codes ";") refl refl))))))
 plain_stays depth (PlainStmt.Write register cell value) = stays_both (register_stays depth register) (stays_both (stays_sign (codes ".") refl refl) (stays_both (stays_named (codes "write")) (stays_both (stays_round depth (λ inner. SpellsExpr inner cell ⨟ Sign (codes ",") ⨟ SpellsExpr inner value) (λ inner. stays_both expr_within (stays_both (stays_sign (codes ",") refl refl) expr_within))) (stays_sign (codes ";") refl refl))))
 plain_stays depth (PlainStmt.Valid header on) = stays_both (header_stays header) (stays_both (stays_sign (codes ".") refl refl) (stays_both (validity_stays on) (stays_both (no_arguments_stays depth) (stays_sign (codes ";") refl refl))))
-plain_stays depth (PlainStmt.Block stage body) = λ ws h. absurd h
-plain_stays depth (PlainStmt.If condition then_stmts) = λ ws h. absurd h
-plain_stays depth (PlainStmt.IfElse condition then_stmts else_stmts) = λ ws h. absurd h
-plain_stays depth (PlainStmt.For index size body) = λ ws h. absurd h
-plain_stays depth (PlainStmt.Call action index arguments) = λ ws h. absurd h
-plain_stays depth (PlainStmt.Apply table) = λ ws h. absurd h
+plain_stays depth _ = λ ws h. absurd h
 
 pub plains_stay : (depth : ℕ) (stmts : PlainStmts) → Stays depth (SpellsPlains depth stmts)
 plains_stay depth PlainStmts.nil = stays_empty

@@ -13,7 +13,7 @@ use Rattle.spelling.specs.Bounds.{IfTooDeep, Line, Opens}
 use Rattle.spelling.specs.Reading.{ahead, IsReading, MayTake, Takes}
 use Rattle.spelling.specs.declared.error.SyntaxError.{SyntaxError}
 use Rattle.spelling.specs.declared.reader.Reader.{Reader}
-use Rattle.spelling.specs.Readers.{ReadsFew, ReadsFewBefore, ReadsFewUpTo, ReadsLineMade}
+use Rattle.spelling.specs.Readers.{ReadsFew, ReadsFewBefore, ReadsFewMade, ReadsFewUpTo}
 use Rattle.p4_expr.specs.Passing.{BoundPassed}
 use Rattle.p4_expr.specs.Parts.{SpellsRegister}
 use Rattle.p4_expr.specs.Expressions.{HasFewOperators, SpellsExpr}
@@ -24,14 +24,7 @@ use Rattle.p4_statements.specs.ExpressionsIn.{expressions_of, expressions_of_all
 abbrev pub SpellsSimple : ℕ → PlainStmt → Grammar
 SpellsSimple depth (PlainStmt.Call action index arguments) = SpellsCall depth action index arguments
 SpellsSimple depth (PlainStmt.Apply table) = SpellsApply depth table
-SpellsSimple depth (PlainStmt.Assign to value) = SpellsPlain depth (PlainStmt.Assign to value)
-SpellsSimple depth (PlainStmt.Read to register cell) = SpellsPlain depth (PlainStmt.Read to register cell)
-SpellsSimple depth (PlainStmt.Write register cell value) = SpellsPlain depth (PlainStmt.Write register cell value)
-SpellsSimple depth (PlainStmt.Valid header on) = SpellsPlain depth (PlainStmt.Valid header on)
-SpellsSimple depth (PlainStmt.Block stage body) = SpellsPlain depth (PlainStmt.Block stage body)
-SpellsSimple depth (PlainStmt.If condition then_stmts) = SpellsPlain depth (PlainStmt.If condition then_stmts)
-SpellsSimple depth (PlainStmt.IfElse condition then_stmts else_stmts) = SpellsPlain depth (PlainStmt.IfElse condition then_stmts else_stmts)
-SpellsSimple depth (PlainStmt.For index size body) = SpellsPlain depth (PlainStmt.For index size body)
+SpellsSimple depth stmt = SpellsPlain depth stmt
 
 -- what stands behind `=` in a read of a register: reg '.' 'read' '(' expr ')' ';'
 abbrev pub SpellsReadOf : ℕ → RegRef → PlainExpr → Grammar
@@ -72,13 +65,6 @@ HasFew stmt = All HasFewOperators (expressions_of stmt)
 abbrev pub HaveFew : PlainStmts → Type 0
 HaveFew stmts = All HasFewOperators (expressions_of_all stmts)
 
--- A reader with bounds of a thing that is made of some others, and of no other thing that the grammar spells.
-pub record ReadsFewMade {A B I : Type 0} (Of : ℕ → B → Grammar) (seen : A → B) (made : I → B) (Few : B → Type 0) (Passed : List Word → List Word → Type 0) (depth : ℕ) (before after : Reader) (result : Result A SyntaxError) : Type 0 where
-  pub taken : IfOk result (λ read. Takes (Of depth (seen read)) (ahead before) (ahead after))
-  pub few : IfOk result (λ read. Few (seen read))
-  pub only : (more : ℕ) (of : I) (rest : List Word) → MayTake (Of more (made of)) (ahead before) rest → IsReading ((more ≤ depth) × Few (made of)) seen (made of) rest (ahead after) result
-  pub deep : IfErr result (IfTooDeep (Passed (ahead before) (ahead after)))
-
 -- a bound is passed within one statement without statements in it
 abbrev pub LinePassed : ℕ → List Word → List Word → Type 0
 LinePassed depth before after = BoundPassed (Line depth) 0 before after
@@ -111,8 +97,8 @@ ReadsExprsUpTo Of depth = ReadsFewUpTo (Begins (IsSign (codes ")"))) Of seen_exp
 abbrev pub ReadsStmt : (ℕ → PlainStmt → Grammar) → (depth : ℕ) → (before after : Reader) → Result Stmt SyntaxError → Type 0
 ReadsStmt Of depth = ReadsFew Of seen_stmt HasFew (LinePassed depth) depth
 
-abbrev pub ReadsForm : {I : Type 0} → (ℕ → PlainStmt → Grammar) → (I → PlainStmt) → (depth : ℕ) → (before after : Reader) → Result Stmt SyntaxError → Type 0
-ReadsForm Of made depth = ReadsFewMade Of seen_stmt made HasFew (LinePassed depth) depth
+abbrev pub ReadsStmtMade : {I : Type 0} → (ℕ → PlainStmt → Grammar) → (I → PlainStmt) → (depth : ℕ) → (before after : Reader) → Result Stmt SyntaxError → Type 0
+ReadsStmtMade Of made depth = ReadsFewMade Of seen_stmt made HasFew (LinePassed depth) depth
 
 abbrev pub a_write : RegRef × PlainExpr × PlainExpr → PlainStmt
 a_write of = PlainStmt.Write of.0 of.1 of.2
@@ -130,15 +116,8 @@ SpellsArguments depth es = Commas (SpellsExpr depth) es
 abbrev pub ReadsExprsBefore : (ℕ → List PlainExpr → Grammar) → (depth : ℕ) → (before after : Reader) → Result (List Expr) SyntaxError → Type 0
 ReadsExprsBefore Of depth = ReadsFewBefore (Begins (IsSign (codes ")"))) Of seen_exprs (λ es. All HasFewOperators es) (LinePassed depth) depth
 
--- A reader of an application of a table, and of a change of a header's validity.
-abbrev pub ReadsApply : (depth : ℕ) → (before after : Reader) → Result Stmt SyntaxError → Type 0
-ReadsApply depth = ReadsLineMade (λ _. Unit {0}) SpellsSimple seen_stmt PlainStmt.Apply depth
-
 abbrev pub a_change : Name × Bool → PlainStmt
 a_change of = PlainStmt.Valid of.0 of.1
-
-abbrev pub ReadsChange : (depth : ℕ) → (before after : Reader) → Result Stmt SyntaxError → Type 0
-ReadsChange depth = ReadsLineMade (λ _. Unit {0}) SpellsPlain seen_stmt a_change depth
 
 -- the bracket of a block stands first
 abbrev pub OpensNextBlock : Grammar
@@ -155,10 +134,13 @@ pub record ReadsAssign (depth : ℕ) (to : Lval) (before after : Reader) (result
   pub only : (more : ℕ) (value : PlainExpr) (rest : List Word) → MayTake (SpellsExpr more value ⨟ Sign (codes ";")) (ahead before) rest → IsReading ((more ≤ depth) × HasFewOperators value) seen_stmt (PlainStmt.Assign to value) rest (ahead after) result
   pub deep : IfErr result (IfTooDeep (LinePassed depth (ahead before) (ahead after)))
 
--- A reader of plain statements, which ends before a closing bracket.
-pub record ReadsPlains (depth : ℕ) (before after : Reader) (result : Result (List Stmt) SyntaxError) : Type 0 where
-  pub taken : IfOk result (λ stmts. MayTake (SpellsPlains depth (seen_stmts stmts)) (ahead before) (ahead after))
+-- A reader of statements that a grammar spells, which ends before a closing bracket.
+pub record ReadsStmtsUpTo (Of : ℕ → PlainStmts → Grammar) (Passed : List Word → List Word → Type 0) (depth : ℕ) (before after : Reader) (result : Result (List Stmt) SyntaxError) : Type 0 where
+  pub taken : IfOk result (λ stmts. MayTake (Of depth (seen_stmts stmts)) (ahead before) (ahead after))
   pub few : IfOk result (λ stmts. HaveFew (seen_stmts stmts))
   pub ended : OnOk result (Begins (IsSign (codes "}")) (ahead after))
-  pub only : (more : ℕ) (stmts : PlainStmts) (rest : List Word) → MayTake (SpellsPlains more stmts) (ahead before) rest → Begins (IsSign (codes "}")) rest → IsReading ((more ≤ depth) × HaveFew stmts) seen_stmts stmts rest (ahead after) result
-  pub deep : IfErr result (IfTooDeep (BoundPassed (Opens depth) 0 (ahead before) (ahead after)))
+  pub only : (more : ℕ) (stmts : PlainStmts) (rest : List Word) → MayTake (Of more stmts) (ahead before) rest → Begins (IsSign (codes "}")) rest → IsReading ((more ≤ depth) × HaveFew stmts) seen_stmts stmts rest (ahead after) result
+  pub deep : IfErr result (IfTooDeep (Passed (ahead before) (ahead after)))
+
+abbrev pub ReadsPlains : (depth : ℕ) → (before after : Reader) → Result (List Stmt) SyntaxError → Type 0
+ReadsPlains depth = ReadsStmtsUpTo SpellsPlains (BoundPassed (Opens depth) 0) depth

@@ -1,42 +1,44 @@
 -- What the readers of statements take and answer, which call one another; this project's own.
-use Rattle.std.specs.Prelude.{ℕ, ◌≤◌, Bool, false, List, Result, IfOk, IfErr, codes, ◌⊎◌}
+use Rattle.std.specs.Prelude.{ℕ, ◌<◌, ◌≤◌, Bool, false, List, Result, IfOk, IfErr, codes, ◌⊎◌}
 use Rattle.elastic_ast.specs.declared.statements.Stmt.{Stmt}
 use Rattle.elastic_ast.specs.Seen.{seen_stmt, seen_stmts}
-use Rattle.elastic_ast.specs.Tree.{PlainStmt, PlainStmts}
 use Rattle.spelling.specs.Words.{Word}
 use Rattle.spelling.specs.Grammar.{Grammar, Begins, IsReserved, IsSign}
 use Rattle.spelling.specs.Bounds.{IfTooDeep}
 use Rattle.spelling.specs.Reading.{ahead, IsReading, MayTake, Takes}
-use Rattle.spelling.specs.Readers.{ClosesNext, InCurly}
+use Rattle.spelling.specs.Readers.{InCurly, ReadsFew}
 use Rattle.spelling.specs.declared.error.SyntaxError.{SyntaxError}
 use Rattle.spelling.specs.declared.reader.Reader.{Reader}
 use Rattle.p4_expr.specs.Passing.{BoundPassed}
-use Rattle.p4_statements.specs.Reading.{EndsStmt, HasFew, HaveFew, TakesToEnd}
+use Rattle.p4_statements.specs.Begun.{BlockBegun, BranchBegun, StmtBegun, StmtsBegun}
+use Rattle.p4_statements.specs.Reading.{EndsStmt, HasFew, HaveFew, ReadsStmtsUpTo, TakesToEnd}
 use Rattle.p4_statements.specs.Statements.{SpellsBranch, SpellsStmt, SpellsStmts}
 
--- What is read is spelled by what was taken: statements, one of them, one that ends in no open `if`, a branch, and a block.
-abbrev pub TakesStmts : (depth : ℕ) → (before after : Reader) → Result (List Stmt) SyntaxError → Type 0
-TakesStmts depth before after result = IfOk result (λ stmts. MayTake (SpellsStmts depth (seen_stmts stmts)) (ahead before) (ahead after))
+-- a bound is passed behind words that are so begun
+abbrev pub PassedIn : (List Word → ℕ → Grammar) → (depth : ℕ) → (before after : List Word) → Type 0
+PassedIn Begun depth before after = BoundPassed (Begun after depth) 0 before after
 
-abbrev pub TakesStmt : (depth : ℕ) → (before after : Reader) → Result Stmt SyntaxError → Type 0
-TakesStmt depth before after result = IfOk result (λ stmt. TakesToEnd (λ open_end. SpellsStmt depth open_end (seen_stmt stmt)) (ahead before) (ahead after))
+-- A reader of statements up to a closing bracket.
+abbrev pub ReadsStmts : (depth : ℕ) → (before after : Reader) → Result (List Stmt) SyntaxError → Type 0
+ReadsStmts depth = ReadsStmtsUpTo SpellsStmts (PassedIn StmtsBegun depth) depth
 
-abbrev pub TakesClosed : (depth : ℕ) → (before after : Reader) → Result Stmt SyntaxError → Type 0
-TakesClosed depth before after result = IfOk result (λ stmt. Takes (SpellsStmt depth false (seen_stmt stmt)) (ahead before) (ahead after))
+-- A reader of what may end in an open `if`. It takes it to an end, and reads what words spell that begin so and are so followed.
+pub record ReadsToEnd {A B : Type 0} (Of : ℕ → Bool → B → Grammar) (seen : A → B) (Few : B → Type 0) (Taken : (Bool → Grammar) → List Word → List Word → Type 0) (Where : List Word → Bool → List Word → Type 0) (Passed : List Word → List Word → Type 0) (depth : ℕ) (before after : Reader) (result : Result A SyntaxError) : Type 0 where
+  pub taken : IfOk result (λ read. Taken (λ open_end. Of depth open_end (seen read)) (ahead before) (ahead after))
+  pub few : IfOk result (λ read. Few (seen read))
+  pub only : (more : ℕ) (open_end : Bool) (x : B) (rest : List Word) → MayTake (Of more open_end x) (ahead before) rest → Where (ahead before) open_end rest → IsReading ((more ≤ depth) × Few x) seen x rest (ahead after) result
+  pub deep : IfErr result (IfTooDeep (Passed (ahead before) (ahead after)))
 
-abbrev pub TakesBranch : (depth : ℕ) → (before after : Reader) → Result (List Stmt) SyntaxError → Type 0
-TakesBranch depth before after result = IfOk result (λ stmts. TakesToEnd (λ open_end. SpellsBranch depth open_end (seen_stmts stmts)) (ahead before) (ahead after))
+abbrev pub ReadsStatement : (depth : ℕ) → (before after : Reader) → Result Stmt SyntaxError → Type 0
+ReadsStatement depth = ReadsToEnd SpellsStmt seen_stmt HasFew TakesToEnd (λ _. EndsStmt) (PassedIn StmtBegun depth) depth
 
-abbrev pub TakesBlock : (depth : ℕ) → (before after : Reader) → Result (List Stmt) SyntaxError → Type 0
-TakesBlock depth before after result = IfOk result (λ stmts. Takes (InCurly SpellsStmts depth (seen_stmts stmts)) (ahead before) (ahead after))
+-- an `if`, which is told by its first word
+abbrev pub ReadsIf : (depth : ℕ) → (before after : Reader) → Result Stmt SyntaxError → Type 0
+ReadsIf depth = ReadsToEnd SpellsStmt seen_stmt HasFew TakesToEnd (λ ws open_end rest. Begins (IsReserved (codes "if")) ws × EndsStmt open_end rest) (PassedIn StmtBegun depth) depth
 
--- What the words spell is read, or refused as too deep where it is deeper than the depth or has too many operators: the same five,
--- of which a block and a loop are told by their first word, and an `if` by its own.
-abbrev pub AnswersStmts : (depth : ℕ) → (before after : Reader) → Result (List Stmt) SyntaxError → Type 0
-AnswersStmts depth before after result = (more : ℕ) (stmts : PlainStmts) (rest : List Word) → MayTake (SpellsStmts more stmts) (ahead before) rest → ClosesNext rest → IsReading ((more ≤ depth) × HaveFew stmts) seen_stmts stmts rest (ahead after) result
-
-abbrev pub AnswersStmt : (depth : ℕ) → (before after : Reader) → Result Stmt SyntaxError → Type 0
-AnswersStmt depth before after result = (more : ℕ) (open_end : Bool) (stmt : PlainStmt) (rest : List Word) → MayTake (SpellsStmt more open_end stmt) (ahead before) rest → EndsStmt open_end rest → IsReading ((more ≤ depth) × HasFew stmt) seen_stmt stmt rest (ahead after) result
+-- what is told by its first word and ends in no open `if`: a block and a loop
+abbrev pub ReadsClosed : (First : Grammar) → (depth : ℕ) → (before after : Reader) → Result Stmt SyntaxError → Type 0
+ReadsClosed First depth = ReadsToEnd SpellsStmt seen_stmt HasFew (λ Of. Takes (Of false)) (λ ws _ _. First ws) (PassedIn StmtBegun depth) depth
 
 abbrev pub BeginsBlock : List Word → Type 0
 BeginsBlock ws = Begins (IsSign (codes "{")) ws ⊎ Begins (IsSign (codes "@")) ws
@@ -44,18 +46,10 @@ BeginsBlock ws = Begins (IsSign (codes "{")) ws ⊎ Begins (IsSign (codes "@")) 
 abbrev pub BeginsFor : List Word → Type 0
 BeginsFor ws = Begins (IsReserved (codes "for")) ws
 
-abbrev pub AnswersBlock : (First : Grammar) → (depth : ℕ) → (before after : Reader) → Result Stmt SyntaxError → Type 0
-AnswersBlock First depth before after result = (more : ℕ) (open_end : Bool) (stmt : PlainStmt) (rest : List Word) → MayTake (SpellsStmt more open_end stmt) (ahead before) rest → First (ahead before) → IsReading ((more ≤ depth) × HasFew stmt) seen_stmt stmt rest (ahead after) result
+-- a branch, which counts as a bracket where it is none
+abbrev pub ReadsBranch : (depth : ℕ) → (before after : Reader) → Result (List Stmt) SyntaxError → Type 0
+ReadsBranch depth = ReadsToEnd SpellsBranch seen_stmts HaveFew TakesToEnd (λ _. EndsStmt) (λ before after. 0 < depth → PassedIn BranchBegun depth before after) depth
 
-abbrev pub AnswersIf : (depth : ℕ) → (before after : Reader) → Result Stmt SyntaxError → Type 0
-AnswersIf depth before after result = (more : ℕ) (open_end : Bool) (stmt : PlainStmt) (rest : List Word) → MayTake (SpellsStmt more open_end stmt) (ahead before) rest → Begins (IsReserved (codes "if")) (ahead before) → EndsStmt open_end rest → IsReading ((more ≤ depth) × HasFew stmt) seen_stmt stmt rest (ahead after) result
-
-abbrev pub AnswersBranch : (depth : ℕ) → (before after : Reader) → Result (List Stmt) SyntaxError → Type 0
-AnswersBranch depth before after result = (more : ℕ) (open_end : Bool) (stmts : PlainStmts) (rest : List Word) → MayTake (SpellsBranch more open_end stmts) (ahead before) rest → EndsStmt open_end rest → IsReading ((more ≤ depth) × HaveFew stmts) seen_stmts stmts rest (ahead after) result
-
-abbrev pub AnswersBraces : (depth : ℕ) → (before after : Reader) → Result (List Stmt) SyntaxError → Type 0
-AnswersBraces depth before after result = (more : ℕ) (stmts : PlainStmts) (rest : List Word) → MayTake (InCurly SpellsStmts more stmts) (ahead before) rest → IsReading ((more ≤ depth) × HaveFew stmts) seen_stmts stmts rest (ahead after) result
-
--- A refusal as too deep comes only where a bound is passed behind words that are so begun.
-abbrev pub DeepIn : {A : Type 0} → (List Word → ℕ → Grammar) → (depth : ℕ) → (before after : Reader) → Result A SyntaxError → Type 0
-DeepIn Begun depth before after result = IfErr result (IfTooDeep (BoundPassed (Begun (ahead after) depth) 0 (ahead before) (ahead after)))
+-- statements in brackets
+abbrev pub ReadsBraces : (depth : ℕ) → (before after : Reader) → Result (List Stmt) SyntaxError → Type 0
+ReadsBraces depth = ReadsFew (InCurly SpellsStmts) seen_stmts HaveFew (PassedIn BlockBegun depth) depth

@@ -23,12 +23,7 @@ SpellsPlain depth (PlainStmt.Assign to value) = SpellsLval depth to ⨟ Sign (co
 SpellsPlain depth (PlainStmt.Read to register cell) = SpellsLval depth to ⨟ Sign (codes "=") ⨟ SpellsRegister depth register ⨟ Sign (codes ".") ⨟ Named (codes "read") ⨟ Bracketed (codes "(") (codes ")") depth (λ inner. SpellsExpr inner cell) ⨟ Sign (codes ";")
 SpellsPlain depth (PlainStmt.Write register cell value) = SpellsRegister depth register ⨟ Sign (codes ".") ⨟ Named (codes "write") ⨟ Bracketed (codes "(") (codes ")") depth (λ inner. SpellsExpr inner cell ⨟ Sign (codes ",") ⨟ SpellsExpr inner value) ⨟ Sign (codes ";")
 SpellsPlain depth (PlainStmt.Valid header on) = SpellsHeader header ⨟ Sign (codes ".") ⨟ SpellsValidity on ⨟ SpellsNoArguments depth ⨟ Sign (codes ";")
-SpellsPlain depth (PlainStmt.Block stage body) = Nothing
-SpellsPlain depth (PlainStmt.If condition then_stmts) = Nothing
-SpellsPlain depth (PlainStmt.IfElse condition then_stmts else_stmts) = Nothing
-SpellsPlain depth (PlainStmt.For index size body) = Nothing
-SpellsPlain depth (PlainStmt.Call action index arguments) = Nothing
-SpellsPlain depth (PlainStmt.Apply table) = Nothing
+SpellsPlain depth _ = Nothing
 
 -- plain*
 abbrev pub SpellsPlains : ℕ → PlainStmts → Grammar
@@ -66,16 +61,7 @@ SpellsApply depth table = Named table ⨟ Sign (codes ".") ⨟ Named (codes "app
 -- a block without a stage
 abbrev pub is_bare_block : PlainStmt → Bool
 is_bare_block (PlainStmt.Block None body) = true
-is_bare_block (PlainStmt.Block (Some stage) body) = false
-is_bare_block (PlainStmt.If condition then_stmts) = false
-is_bare_block (PlainStmt.IfElse condition then_stmts else_stmts) = false
-is_bare_block (PlainStmt.For index size body) = false
-is_bare_block (PlainStmt.Assign to value) = false
-is_bare_block (PlainStmt.Read to register cell) = false
-is_bare_block (PlainStmt.Write register cell value) = false
-is_bare_block (PlainStmt.Valid header on) = false
-is_bare_block (PlainStmt.Call action index arguments) = false
-is_bare_block (PlainStmt.Apply table) = false
+is_bare_block _ = false
 
 mutual
   -- A statement at a depth, which is how many brackets may be open. An open one ends in an `if` without `else`, to which an

@@ -6,38 +6,26 @@ ghost use Rattle.p4_statements.specs.Reading.{ReadsExpr, ReadsTwo, ReadsTwoUpTo,
 
 use elastic_ast::Expr;
 use p4_expr::read_expr;
-use spelling::{Reader, SyntaxError, in_brackets};
+use spelling::{Brackets, Parsed, Reader};
 use std::alloc::Global;
 
 /// `(EXPRESSION)`. `depth` is how many brackets may be open from here on. NotProgram where something else follows; TooDeep where
 /// too many brackets are open or the expression has too many operators; Memory for want of memory.
-pub fn bracketed(alloc: Global, reader: &mut Reader<'_>, depth: u32) -> Result<Expr, SyntaxError>
+pub fn bracketed(alloc: Global, reader: &mut Reader<'_>, depth: u32) -> Parsed<Expr>
     ensures { ReadsExpr (InRound SpellsExpr) depth reader.old reader.new result }
 {
-    in_brackets(
-        reader,
-        b"(",
-        b")",
-        depth,
-        |reader, inner| read_expr(alloc, reader, inner),
-    )
+    Brackets::Round(depth).around(reader, |reader, inner| read_expr(alloc, reader, inner))
 }
 
 /// `(EXPRESSION, EXPRESSION)`
-pub fn two(alloc: Global, reader: &mut Reader<'_>, depth: u32) -> Result<(Expr, Expr), SyntaxError>
+pub fn two(alloc: Global, reader: &mut Reader<'_>, depth: u32) -> Parsed<(Expr, Expr)>
     ensures { ReadsTwo (InRound SpellsTwo) depth reader.old reader.new result }
 {
-    in_brackets(
-        reader,
-        b"(",
-        b")",
-        depth,
-        |reader, inner| two_in(alloc, reader, inner),
-    )
+    Brackets::Round(depth).around(reader, |reader, inner| two_in(alloc, reader, inner))
 }
 
 /// `EXPRESSION, EXPRESSION`, up to the closing bracket.
-fn two_in(alloc: Global, reader: &mut Reader<'_>, depth: u32) -> Result<(Expr, Expr), SyntaxError>
+fn two_in(alloc: Global, reader: &mut Reader<'_>, depth: u32) -> Parsed<(Expr, Expr)>
     ensures { ReadsTwoUpTo SpellsTwo depth reader.old reader.new result }
 {
     let one = read_expr(alloc, reader, depth)?;

@@ -1,19 +1,20 @@
 //! Calls of actions and applications of tables.
 
-ghost use Rattle.std.specs.Prelude.{IfOk};
-ghost use Rattle.elastic_ast.specs.Seen.{seen_stmt};
+ghost use Rattle.elastic_ast.specs.Tree.{PlainStmt};
 ghost use Rattle.spelling.specs.Readers.{InRound};
-ghost use Rattle.p4_statements.specs.Reading.{HasFew, ReadsApply, ReadsExprs, ReadsExprsBefore, ReadsExprsUpTo, ReadsForm, SpellsArguments, SpellsExprList, SpellsSimple, a_call};
+ghost use Rattle.p4_statements.specs.Reading.{ReadsExprs, ReadsExprsBefore, ReadsExprsUpTo};
+ghost use Rattle.p4_statements.specs.Reading.{ReadsStmtMade, SpellsArguments, SpellsExprList};
+ghost use Rattle.p4_statements.specs.Reading.{SpellsSimple, a_call};
 
 use elastic_ast::{Expr, Stmt};
 use elx_bits::Items;
 use p4_expr::{index, no_arguments, read_expr};
-use spelling::{Reader, SyntaxError, in_brackets, keep};
+use spelling::{Brackets, Parsed, Reader, keep};
 use std::alloc::Global;
 
 /// `ACTION(ARGUMENTS);` or `ACTION[INDEX](ARGUMENTS);`
-pub fn call(alloc: Global, reader: &mut Reader<'_>, depth: u32) -> Result<Stmt, SyntaxError>
-    ensures { ReadsForm SpellsSimple a_call depth reader.old reader.new result }
+pub fn call(alloc: Global, reader: &mut Reader<'_>, depth: u32) -> Parsed<Stmt>
+    ensures { ReadsStmtMade SpellsSimple a_call depth reader.old reader.new result }
 {
     let action = reader.name(alloc)?;
     let index = index(alloc, reader, depth)?;
@@ -27,9 +28,8 @@ pub fn call(alloc: Global, reader: &mut Reader<'_>, depth: u32) -> Result<Stmt, 
 }
 
 /// `TABLE.apply();`
-pub fn apply(alloc: Global, reader: &mut Reader<'_>, depth: u32) -> Result<Stmt, SyntaxError>
-    ensures few { IfOk result (λ stmt. HasFew (seen_stmt stmt)) }
-    ensures reads { ReadsApply depth reader.old reader.new result }
+pub fn apply(alloc: Global, reader: &mut Reader<'_>, depth: u32) -> Parsed<Stmt>
+    ensures { ReadsStmtMade SpellsSimple PlainStmt.Apply depth reader.old reader.new result }
 {
     let table = reader.name(alloc)?;
     reader.sign(b".")?;
@@ -40,24 +40,14 @@ pub fn apply(alloc: Global, reader: &mut Reader<'_>, depth: u32) -> Result<Stmt,
 }
 
 /// Expressions between brackets, with a comma between each two.
-fn arguments(alloc: Global, reader: &mut Reader<'_>, depth: u32) -> Result<Items<Expr>, SyntaxError>
+fn arguments(alloc: Global, reader: &mut Reader<'_>, depth: u32) -> Parsed<Items<Expr>>
     ensures { ReadsExprs (InRound SpellsArguments) depth reader.old reader.new result }
 {
-    in_brackets(
-        reader,
-        b"(",
-        b")",
-        depth,
-        |reader, inner| argument_list(alloc, reader, inner),
-    )
+    Brackets::Round(depth).around(reader, |reader, inner| argument_list(alloc, reader, inner))
 }
 
 /// Expressions with a comma between each two, perhaps none, up to the closing bracket.
-fn argument_list(
-    alloc: Global,
-    reader: &mut Reader<'_>,
-    depth: u32,
-) -> Result<Items<Expr>, SyntaxError>
+fn argument_list(alloc: Global, reader: &mut Reader<'_>, depth: u32) -> Parsed<Items<Expr>>
     ensures { ReadsExprsUpTo SpellsArguments depth reader.old reader.new result }
 {
     if reader.is_at_sign(b")") {
@@ -67,11 +57,7 @@ fn argument_list(
 }
 
 /// At least one expression, with a comma between each two.
-fn expressions(
-    alloc: Global,
-    reader: &mut Reader<'_>,
-    depth: u32,
-) -> Result<Items<Expr>, SyntaxError>
+fn expressions(alloc: Global, reader: &mut Reader<'_>, depth: u32) -> Parsed<Items<Expr>>
     ensures { ReadsExprsBefore SpellsExprList depth reader.old reader.new result }
 {
     let mut exprs = Items::new(alloc);

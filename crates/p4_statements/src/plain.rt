@@ -1,43 +1,34 @@
 //! Plain statements: assignments, reads and writes of registers, and changes of a header's validity.
 
-ghost use Rattle.std.specs.Prelude.{◌↔◌, IsTrue, codes, drop, IfOk};
-ghost use Rattle.elastic_ast.specs.Seen.{seen_stmt};
+ghost use Rattle.std.specs.Prelude.{◌↔◌, IsTrue, codes, drop};
 ghost use Rattle.spelling.specs.Grammar.{Begins, IsSign};
 ghost use Rattle.spelling.specs.Reading.{ahead};
 ghost use Rattle.spelling.specs.Readers.{itself, Reads};
 ghost use Rattle.p4_statements.specs.Statements.{SpellsPlain, SpellsValidity};
 ghost use Rattle.p4_statements.specs.WordsAhead.{IfIndexedName, IfReadCall, IsChangeAhead, IsWriteAhead};
-ghost use Rattle.p4_statements.specs.Reading.{HasFew, IsReadAhead, ReadsAssign, ReadsChange, ReadsForm, ReadsPlains, ReadsRead, ReadsStmt, a_write};
+ghost use Rattle.p4_statements.specs.Reading.{IsReadAhead, ReadsAssign, ReadsStmtMade, ReadsPlains};
+ghost use Rattle.p4_statements.specs.Reading.{ReadsRead, ReadsStmt, a_change, a_write};
 
 use crate::brackets::{bracketed, two};
 use elastic_ast::{Lval, Stmt};
 use elx_bits::Items;
 use p4_expr::{header, lval, no_arguments, read_expr, register};
-use spelling::{Reader, SyntaxError, until};
+use spelling::{Parsed, Reader, until_closed};
 use std::alloc::Global;
 
 /// Reads plain statements up to a closing bracket. `depth` is how many brackets may be open from here on.
-pub fn plain_statements(
-    alloc: Global,
-    reader: &mut Reader<'_>,
-    depth: u32,
-) -> Result<Items<Stmt>, SyntaxError>
+pub fn plain_statements(alloc: Global, reader: &mut Reader<'_>, depth: u32) -> Parsed<Items<Stmt>>
     ensures { ReadsPlains depth reader.old reader.new result }
 {
-    until(
+    until_closed(
         alloc,
         reader,
-        b"}",
         |reader| plain_statement(alloc, reader, depth),
     )
 }
 
 /// Reads a plain statement. `depth` is how many brackets may be open from here on.
-pub fn plain_statement(
-    alloc: Global,
-    reader: &mut Reader<'_>,
-    depth: u32,
-) -> Result<Stmt, SyntaxError>
+pub fn plain_statement(alloc: Global, reader: &mut Reader<'_>, depth: u32) -> Parsed<Stmt>
     ensures { ReadsStmt SpellsPlain depth reader.old reader.new result }
 {
     if is_at_write(reader) {
@@ -88,8 +79,8 @@ fn is_at_read(reader: &Reader<'_>) -> bool
 }
 
 /// `REGISTER.write(CELL, VALUE);`
-fn write(alloc: Global, reader: &mut Reader<'_>, depth: u32) -> Result<Stmt, SyntaxError>
-    ensures { ReadsForm SpellsPlain a_write depth reader.old reader.new result }
+fn write(alloc: Global, reader: &mut Reader<'_>, depth: u32) -> Parsed<Stmt>
+    ensures { ReadsStmtMade SpellsPlain a_write depth reader.old reader.new result }
 {
     let reg = register(alloc, reader, depth)?;
     reader.sign(b".")?;
@@ -100,9 +91,8 @@ fn write(alloc: Global, reader: &mut Reader<'_>, depth: u32) -> Result<Stmt, Syn
 }
 
 /// `hdr.HEADER.setValid();` or `hdr.HEADER.setInvalid();`
-fn validity(alloc: Global, reader: &mut Reader<'_>, depth: u32) -> Result<Stmt, SyntaxError>
-    ensures few { IfOk result (λ stmt. HasFew (seen_stmt stmt)) }
-    ensures reads { ReadsChange depth reader.old reader.new result }
+fn validity(alloc: Global, reader: &mut Reader<'_>, depth: u32) -> Parsed<Stmt>
+    ensures { ReadsStmtMade SpellsPlain a_change depth reader.old reader.new result }
 {
     let header = header(alloc, reader)?;
     reader.sign(b".")?;
@@ -113,7 +103,7 @@ fn validity(alloc: Global, reader: &mut Reader<'_>, depth: u32) -> Result<Stmt, 
 }
 
 /// `setValid` or `setInvalid`: whether the header is made valid.
-fn change(reader: &mut Reader<'_>) -> Result<bool, SyntaxError>
+fn change(reader: &mut Reader<'_>) -> Parsed<bool>
     ensures { Reads SpellsValidity itself reader.old reader.new result }
 {
     if reader.is_at_name(b"setValid") {
@@ -125,7 +115,7 @@ fn change(reader: &mut Reader<'_>) -> Result<bool, SyntaxError>
 }
 
 /// Reads what follows `PLACE =` where it is `REGISTER.read(CELL);`.
-fn read(alloc: Global, reader: &mut Reader<'_>, depth: u32, to: Lval) -> Result<Stmt, SyntaxError>
+fn read(alloc: Global, reader: &mut Reader<'_>, depth: u32, to: Lval) -> Parsed<Stmt>
     ensures { ReadsRead depth to reader.old reader.new result }
 {
     let reg = register(alloc, reader, depth)?;
@@ -137,7 +127,7 @@ fn read(alloc: Global, reader: &mut Reader<'_>, depth: u32, to: Lval) -> Result<
 }
 
 /// Reads what follows `PLACE =` where it is `VALUE;`.
-fn assign(alloc: Global, reader: &mut Reader<'_>, depth: u32, to: Lval) -> Result<Stmt, SyntaxError>
+fn assign(alloc: Global, reader: &mut Reader<'_>, depth: u32, to: Lval) -> Parsed<Stmt>
     ensures { ReadsAssign depth to reader.old reader.new result }
 {
     let value = read_expr(alloc, reader, depth)?;

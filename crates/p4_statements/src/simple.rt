@@ -9,25 +9,21 @@ ghost use Rattle.p4_statements.specs.Reading.{ReadsStmt, SpellsSimple};
 use crate::calls::{apply, call};
 use crate::plain::plain_statement;
 use elastic_ast::Stmt;
-use spelling::{Reader, SyntaxError};
+use spelling::{Parsed, Reader};
 use std::alloc::Global;
 
 /// Reads a call of an action, an application of a table or a plain statement, which the first words tell apart. `depth` is how
 /// many brackets may be open from here on.
-pub fn simple_statement(
-    alloc: Global,
-    reader: &mut Reader<'_>,
-    depth: u32,
-) -> Result<Stmt, SyntaxError>
+pub fn simple_statement(alloc: Global, reader: &mut Reader<'_>, depth: u32) -> Parsed<Stmt>
     ensures { ReadsStmt SpellsSimple depth reader.old reader.new result }
 {
     if is_at_call(reader) {
-        return call(alloc, reader, depth);
+        call(alloc, reader, depth)
+    } else if is_at_apply(reader) {
+        apply(alloc, reader, depth)
+    } else {
+        plain_statement(alloc, reader, depth)
     }
-    if is_at_apply(reader) {
-        return apply(alloc, reader, depth);
-    }
-    plain_statement(alloc, reader, depth)
 }
 
 /// Whether an action is called: the brackets of a call follow the name, or its index.

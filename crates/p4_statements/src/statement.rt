@@ -1,19 +1,19 @@
 //! The reader of statements.
 
-ghost use Rattle.std.specs.Prelude.{◌↔◌, IsTrue, IfOk, OnOk, ◌<◌};
-ghost use Rattle.elastic_ast.specs.Seen.{seen_stmt, seen_stmts};
+ghost use Rattle.std.specs.Prelude.{◌↔◌, IsTrue};
 ghost use Rattle.spelling.specs.Reading.{ahead};
-ghost use Rattle.spelling.specs.Readers.{ClosesNext, itself, Reads, ReadsLine, ReadsLineUpTo};
-ghost use Rattle.p4_statements.specs.Begun.{BlockBegun, BranchBegun, StmtBegun, StmtsBegun};
-ghost use Rattle.p4_statements.specs.ReadingStatements.{AnswersBlock, AnswersBraces, AnswersBranch, AnswersIf, AnswersStmt, AnswersStmts, BeginsBlock, BeginsFor, DeepIn, TakesBlock, TakesBranch, TakesClosed, TakesStmt, TakesStmts};
-ghost use Rattle.p4_statements.specs.Reading.{HasFew, HaveFew, OpensNextBlock, ReadsExpr};
+ghost use Rattle.spelling.specs.Readers.{itself, Reads, ReadsLine, ReadsLineUpTo};
+ghost use Rattle.p4_statements.specs.ReadingStatements.{BeginsBlock, BeginsFor, ReadsBraces};
+ghost use Rattle.p4_statements.specs.ReadingStatements.{ReadsBranch, ReadsClosed, ReadsIf};
+ghost use Rattle.p4_statements.specs.ReadingStatements.{ReadsStatement, ReadsStmts};
+ghost use Rattle.p4_statements.specs.Reading.{OpensNextBlock, ReadsExpr};
 ghost use Rattle.p4_statements.specs.Statements.{SpellsCondition, SpellsFor, SpellsStage, SpellsTurn};
 
 use crate::brackets::bracketed;
 use crate::simple::simple_statement;
 use elastic_ast::{Expr, Stmt};
 use elx_bits::{Items, Name};
-use spelling::{Reader, SyntaxError, in_brackets, keep};
+use spelling::{Brackets, Parsed, Reader, keep};
 use std::alloc::Global;
 
 /// Reads statements up to a closing bracket. `depth` is how many brackets may be open from here on.
@@ -21,16 +21,8 @@ use std::alloc::Global;
 /// NotProgram names the token at which the reading stopped; TooDeep the token at which too many brackets are open, a branch that
 /// is no block counted as one, or an expression has too many operators; Memory comes for want of memory.
 #[cycle(statements)]
-pub fn statements(
-    alloc: Global,
-    reader: &mut Reader<'_>,
-    depth: u32,
-) -> Result<Items<Stmt>, SyntaxError>
-    ensures taken { TakesStmts depth reader.old reader.new result }
-    ensures few { IfOk result (λ stmts. HaveFew (seen_stmts stmts)) }
-    ensures ended { OnOk result (ClosesNext (ahead reader.new)) }
-    ensures only { AnswersStmts depth reader.old reader.new result }
-    ensures deep { DeepIn StmtsBegun depth reader.old reader.new result }
+pub fn statements(alloc: Global, reader: &mut Reader<'_>, depth: u32) -> Parsed<Items<Stmt>>
+    ensures { ReadsStmts depth reader.old reader.new result }
 {
     let mut stmts = Items::new(alloc);
     'stmts: while !reader.is_at_sign(b"}") {
@@ -42,11 +34,8 @@ pub fn statements(
 
 /// Reads a statement, which its first token determines.
 #[cycle(statements)]
-fn statement(alloc: Global, reader: &mut Reader<'_>, depth: u32) -> Result<Stmt, SyntaxError>
-    ensures taken { TakesStmt depth reader.old reader.new result }
-    ensures few { IfOk result (λ stmt. HasFew (seen_stmt stmt)) }
-    ensures only { AnswersStmt depth reader.old reader.new result }
-    ensures deep { DeepIn StmtBegun depth reader.old reader.new result }
+fn statement(alloc: Global, reader: &mut Reader<'_>, depth: u32) -> Parsed<Stmt>
+    ensures { ReadsStatement depth reader.old reader.new result }
 {
     if is_at_block(reader) {
         return block(alloc, reader, depth);
@@ -62,11 +51,8 @@ fn statement(alloc: Global, reader: &mut Reader<'_>, depth: u32) -> Result<Stmt,
 
 /// `{ STATEMENTS }`, perhaps with `@stage(STAGE)` before it.
 #[cycle(statements)]
-fn block(alloc: Global, reader: &mut Reader<'_>, depth: u32) -> Result<Stmt, SyntaxError>
-    ensures taken { TakesClosed depth reader.old reader.new result }
-    ensures few { IfOk result (λ stmt. HasFew (seen_stmt stmt)) }
-    ensures only { AnswersBlock BeginsBlock depth reader.old reader.new result }
-    ensures deep { DeepIn StmtBegun depth reader.old reader.new result }
+fn block(alloc: Global, reader: &mut Reader<'_>, depth: u32) -> Parsed<Stmt>
+    ensures { ReadsClosed BeginsBlock depth reader.old reader.new result }
 {
     let stage = stage(reader, depth)?;
     let body = in_braces(alloc, reader, depth)?;
@@ -75,11 +61,8 @@ fn block(alloc: Global, reader: &mut Reader<'_>, depth: u32) -> Result<Stmt, Syn
 
 /// `if (CONDITION) BRANCH` or `if (CONDITION) BRANCH else BRANCH`
 #[cycle(statements)]
-fn conditional(alloc: Global, reader: &mut Reader<'_>, depth: u32) -> Result<Stmt, SyntaxError>
-    ensures taken { TakesStmt depth reader.old reader.new result }
-    ensures few { IfOk result (λ stmt. HasFew (seen_stmt stmt)) }
-    ensures only { AnswersIf depth reader.old reader.new result }
-    ensures deep { DeepIn StmtBegun depth reader.old reader.new result }
+fn conditional(alloc: Global, reader: &mut Reader<'_>, depth: u32) -> Parsed<Stmt>
+    ensures { ReadsIf depth reader.old reader.new result }
 {
     let cond = condition(alloc, reader, depth)?;
     let yes = branch(alloc, reader, depth)?;
@@ -101,11 +84,8 @@ fn conditional(alloc: Global, reader: &mut Reader<'_>, depth: u32) -> Result<Stm
 
 /// `for (INDEX < SIZE) { STATEMENTS }`
 #[cycle(statements)]
-fn repeated(alloc: Global, reader: &mut Reader<'_>, depth: u32) -> Result<Stmt, SyntaxError>
-    ensures taken { TakesClosed depth reader.old reader.new result }
-    ensures few { IfOk result (λ stmt. HasFew (seen_stmt stmt)) }
-    ensures only { AnswersBlock BeginsFor depth reader.old reader.new result }
-    ensures deep { DeepIn StmtBegun depth reader.old reader.new result }
+fn repeated(alloc: Global, reader: &mut Reader<'_>, depth: u32) -> Parsed<Stmt>
+    ensures { ReadsClosed BeginsFor depth reader.old reader.new result }
 {
     let (index, size) = turns(alloc, reader, depth)?;
     let body = in_braces(alloc, reader, depth)?;
@@ -114,11 +94,8 @@ fn repeated(alloc: Global, reader: &mut Reader<'_>, depth: u32) -> Result<Stmt, 
 
 /// A branch of an `if`: the statements of a block without a stage, or one other statement, which counts as one more bracket.
 #[cycle(statements)]
-fn branch(alloc: Global, reader: &mut Reader<'_>, depth: u32) -> Result<Items<Stmt>, SyntaxError>
-    ensures taken { TakesBranch depth reader.old reader.new result }
-    ensures few { IfOk result (λ stmts. HaveFew (seen_stmts stmts)) }
-    ensures only { AnswersBranch depth reader.old reader.new result }
-    ensures deep { 0 < depth → DeepIn BranchBegun depth reader.old reader.new result }
+fn branch(alloc: Global, reader: &mut Reader<'_>, depth: u32) -> Parsed<Items<Stmt>>
+    ensures { ReadsBranch depth reader.old reader.new result }
 {
     if reader.is_at_sign(b"{") {
         return in_braces(alloc, reader, depth);
@@ -134,11 +111,8 @@ fn branch(alloc: Global, reader: &mut Reader<'_>, depth: u32) -> Result<Items<St
 
 /// `{ STATEMENTS }`
 #[cycle(statements)]
-fn in_braces(alloc: Global, reader: &mut Reader<'_>, depth: u32) -> Result<Items<Stmt>, SyntaxError>
-    ensures taken { TakesBlock depth reader.old reader.new result }
-    ensures few { IfOk result (λ stmts. HaveFew (seen_stmts stmts)) }
-    ensures only { AnswersBraces depth reader.old reader.new result }
-    ensures deep { DeepIn BlockBegun depth reader.old reader.new result }
+fn in_braces(alloc: Global, reader: &mut Reader<'_>, depth: u32) -> Parsed<Items<Stmt>>
+    ensures { ReadsBraces depth reader.old reader.new result }
 {
     let inner = reader.open(b"{", depth)?;
     let stmts = statements(alloc, reader, inner)?;
@@ -154,7 +128,7 @@ fn is_at_block(reader: &Reader<'_>) -> bool
 }
 
 /// `@stage(STAGE)`, where it is there.
-fn stage(reader: &mut Reader<'_>, depth: u32) -> Result<Option<u8>, SyntaxError>
+fn stage(reader: &mut Reader<'_>, depth: u32) -> Parsed<Option<u8>>
     ensures { ReadsLineUpTo OpensNextBlock SpellsStage itself depth reader.old reader.new result }
 {
     if !reader.eat_sign(b"@") {
@@ -168,7 +142,7 @@ fn stage(reader: &mut Reader<'_>, depth: u32) -> Result<Option<u8>, SyntaxError>
 }
 
 /// `if (CONDITION)`
-fn condition(alloc: Global, reader: &mut Reader<'_>, depth: u32) -> Result<Expr, SyntaxError>
+fn condition(alloc: Global, reader: &mut Reader<'_>, depth: u32) -> Parsed<Expr>
     ensures { ReadsExpr SpellsCondition depth reader.old reader.new result }
 {
     reader.reserved(b"if")?;
@@ -176,15 +150,15 @@ fn condition(alloc: Global, reader: &mut Reader<'_>, depth: u32) -> Result<Expr,
 }
 
 /// `for (INDEX < SIZE)`
-fn turns(alloc: Global, reader: &mut Reader<'_>, depth: u32) -> Result<(Name, Name), SyntaxError>
+fn turns(alloc: Global, reader: &mut Reader<'_>, depth: u32) -> Parsed<(Name, Name)>
     ensures { ReadsLine SpellsFor itself depth reader.old reader.new result }
 {
     reader.reserved(b"for")?;
-    in_brackets(reader, b"(", b")", depth, |reader, _| turn(alloc, reader))
+    Brackets::Round(depth).around(reader, |reader, _| turn(alloc, reader))
 }
 
 /// `INDEX < SIZE`
-fn turn(alloc: Global, reader: &mut Reader<'_>) -> Result<(Name, Name), SyntaxError>
+fn turn(alloc: Global, reader: &mut Reader<'_>) -> Parsed<(Name, Name)>
     ensures { Reads SpellsTurn itself reader.old reader.new result }
 {
     let index = reader.name(alloc)?;

@@ -1,5 +1,5 @@
 -- What the spelling of a key and of an entry leaves no choice of.
-use Rattle.std.proofs.Common.{◌≡◌, ℕ, Bool, true, false, List, [], ◌∷◌, codes, refl, ap, ◌∙◌, inl, inr}
+use Rattle.std.proofs.Common.{◌≡◌, ℕ, Bool, true, false, List, [], ◌∷◌, Result, Ok, Err, codes, refl, ap, ◌∙◌, inl, inr}
 use Rattle.elastic_ast.specs.Tree.{PlainEntry, PlainExpr, PlainKeyset}
 use Rattle.elastic_ast.specs.declared.declarations.Key.{Key}
 use Rattle.elastic_ast.specs.declared.statements.Lval.{Lval}
@@ -9,7 +9,11 @@ use Rattle.spelling.specs.Grammar.{Grammar, ◌⨟◌, Begins, IsNamed, IsSign, 
 use Rattle.spelling.specs.Reading.{Ends, MayTake}
 use Rattle.spelling.proofs.Only.{begins, begins_bracketed, begins_first, ends_sign, not_sign, other_text, split, which}
 use Rattle.p4_expr.specs.GoesOn.{EndsIndex}
-use Rattle.p4_expr.specs.Parts.{SpellsLval}
+use Rattle.p4_expr.specs.Parts.{ReadsPlace, SpellsLval}
+use Rattle.spelling.specs.Readers.{ReadsWithinBefore, itself}
+use Rattle.spelling.specs.declared.error.SyntaxError.{SyntaxError}
+use Rattle.spelling.specs.declared.reader.Reader.{Reader}
+use Rattle.spelling.proofs.Bounds.{if_deep, line_opens, stop_as}
 use Rattle.p4_tables.specs.GoesOn.{set_signs}
 use Rattle.p4_tables.specs.Tables.{SpellsActionName, SpellsEntry, SpellsKey, SpellsMatch, SpellsSetList}
 use Rattle.p4_tables.proofs.SetSpelling.{one_set_there, set_no_sign}
@@ -23,12 +27,20 @@ pub match_false : (ternary : Bool) {a c : List Word} → MayTake (SpellsMatch te
 match_false true m none = absurd (none (begins m))
 match_false false m none = (refl, m)
 
--- a place ends where a colon follows
-pub colon_ends : {Q : Grammar} {a c : List Word} → MayTake (Sign (codes ":") ⨟ Q) a c → EndsIndex a
-colon_ends {a = a} m = λ at. absurd ((ends_sign (codes "[" ∷ []) (codes ":") a refl (begins_first m)).0 at)
+-- a place and a set end where a colon follows
+pub colon_is_no_index : (ws : List Word) → Begins (IsSign (codes ":")) ws → EndsIndex ws
+colon_is_no_index ws colon = λ at. absurd ((ends_sign (codes "[" ∷ []) (codes ":") ws refl colon).0 at)
+
+pub colon_is_no_set : (ws : List Word) → Begins (IsSign (codes ":")) ws → Ends set_signs ws
+colon_is_no_set ws colon = ends_sign set_signs (codes ":") ws refl colon
 
 pub colon_ends_set : {Q : Grammar} {a c : List Word} → MayTake (Sign (codes ":") ⨟ Q) a c → Ends set_signs a
-colon_ends_set {a = a} m = ends_sign set_signs (codes ":") a refl (begins_first m)
+colon_ends_set {a = a} m = colon_is_no_set a (begins_first m)
+
+-- a reader of a place, by its depth alone
+pub place_within : {depth : ℕ} {before after : Reader} {result : Result Lval SyntaxError} → ReadsPlace itself depth before after result → ReadsWithinBefore EndsIndex SpellsLval itself depth before after result
+place_within {depth = depth} {result = Ok place} r = record { taken = r.taken; only = r.only; deep = tt }
+place_within {depth = depth} {result = Err e} r = record { taken = tt; only = r.only; deep = if_deep e (λ s. stop_as (λ ws. line_opens depth ws) s) r.deep }
 
 pub same_key : (f g : Key) → f.field ≡ g.field → f.ternary ≡ g.ternary → f ≡ g
 same_key f g field ternary =

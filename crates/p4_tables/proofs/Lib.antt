@@ -3,4 +3,3 @@ mod PropertySpelling
 pub mod SetSpelling
 mod TableSpelling
 pub mod TablesWithin
-pub mod WordsUpTo

@@ -5,7 +5,7 @@ use Rattle.p4_lexer.specs.declared.token.Kind.{Kind}
 use Rattle.p4_lexer.specs.declared.token.Kind.TheVariants as kind
 use Rattle.elastic_ast.specs.Tree.{PlainExpr, PlainKeyset}
 use Rattle.spelling.specs.Words.{Word}
-use Rattle.spelling.specs.Grammar.{Grammar, Empty, ◌⨟◌, Begins, Bracketed, Commas, IsReserved, IsSign, Named, Reserved, Sign, is_number, is_reserved, is_sign}
+use Rattle.spelling.specs.Grammar.{Grammar, Empty, ◌⨟◌, Begins, Bracketed, IsReserved, IsSign, Named, Reserved, Sign, is_number, is_reserved, is_sign}
 use Rattle.spelling.specs.Reading.{Ends, MayTake}
 use Rattle.spelling.proofs.Only.{alone, begins, begins_both, begins_bracketed, begins_first, empty_same, not_sign, of_where, reserved_no_sign, split, which}
 use Rattle.p4_expr.specs.Parts.{IsNumber, SpellsNumber}
@@ -34,14 +34,7 @@ begins_number width number {a = a} m = number_there width number a (begins (of_w
 pub named_value : (value : PlainExpr) {a c : List Word} → MayTake (SpellsValue value) a c → (Begins (λ word. IsTrue (is_number word.kind)) a → ⊥) → NamedValue value a c
 named_value (PlainExpr.Num width number) m none = absurd (none (begins_number width number m))
 named_value (PlainExpr.Named name) m none = record { name = name; is = refl; ahead = m }
-named_value (PlainExpr.Truth truth) m none = absurd m.spelled
-named_value (PlainExpr.At lval) m none = absurd m.spelled
-named_value (PlainExpr.IsValid header) m none = absurd m.spelled
-named_value (PlainExpr.Unary op of) m none = absurd m.spelled
-named_value (PlainExpr.Binary op left right) m none = absurd m.spelled
-named_value (PlainExpr.Cast width of) m none = absurd m.spelled
-named_value (PlainExpr.Slice of high low) m none = absurd m.spelled
-named_value (PlainExpr.Hash number of modulus) m none = absurd m.spelled
+named_value other m none = absurd m.spelled
 
 name_no_number : (n : List ℕ) {a c : List Word} → MayTake (Named n) a c → Begins (λ word. IsTrue (is_number word.kind)) a → ⊥
 name_no_number n {a = a} m at =
@@ -51,34 +44,17 @@ name_no_number n {a = a} m at =
 pub number_value : (value : PlainExpr) {a c : List Word} → MayTake (SpellsValue value) a c → Begins (λ word. IsTrue (is_number word.kind)) a → NumberValue value a c
 number_value (PlainExpr.Num width number) m at = record { width = width; number = number; is = refl; ahead = m }
 number_value (PlainExpr.Named name) m at = absurd (name_no_number name m at)
-number_value (PlainExpr.Truth truth) m at = absurd m.spelled
-number_value (PlainExpr.At lval) m at = absurd m.spelled
-number_value (PlainExpr.IsValid header) m at = absurd m.spelled
-number_value (PlainExpr.Unary op of) m at = absurd m.spelled
-number_value (PlainExpr.Binary op left right) m at = absurd m.spelled
-number_value (PlainExpr.Cast width of) m at = absurd m.spelled
-number_value (PlainExpr.Slice of high low) m at = absurd m.spelled
-number_value (PlainExpr.Hash number of modulus) m at = absurd m.spelled
+number_value other m at = absurd m.spelled
 
 -- no value begins with a reserved word
 reserved_no_number : (text : List ℕ) (k : Kind) → IsTrue (is_reserved k) → IsTrue (is_number k) → ⊥
 reserved_no_number text (kind.Reserved code) h g = false≢true g
-reserved_no_number text (kind.Sign code) h g = false≢true h
-reserved_no_number text kind.Name h g = false≢true h
-reserved_no_number text (kind.Number width value) h g = false≢true h
-reserved_no_number text (kind.Include file) h g = false≢true h
+reserved_no_number text other h g = false≢true h
 
 pub value_no_reserved : (value : PlainExpr) {a c : List Word} (text : List ℕ) → MayTake (SpellsValue value) a c → Begins (IsReserved text) a → ⊥
 value_no_reserved (PlainExpr.Num width number) {a = a} text m at = let b = begins_both a (begins_number width number m) at in reserved_no_number text b.0.kind b.2.0 b.1
 value_no_reserved (PlainExpr.Named name) {a = a} text m at = let b = begins_both a (begins m) at in false≢true (sym (ap is_reserved b.1.0) ∙ b.2.0)
-value_no_reserved (PlainExpr.Truth truth) text m at = absurd m.spelled
-value_no_reserved (PlainExpr.At lval) text m at = absurd m.spelled
-value_no_reserved (PlainExpr.IsValid header) text m at = absurd m.spelled
-value_no_reserved (PlainExpr.Unary op of) text m at = absurd m.spelled
-value_no_reserved (PlainExpr.Binary op left right) text m at = absurd m.spelled
-value_no_reserved (PlainExpr.Cast width of) text m at = absurd m.spelled
-value_no_reserved (PlainExpr.Slice of high low) text m at = absurd m.spelled
-value_no_reserved (PlainExpr.Hash number of modulus) text m at = absurd m.spelled
+value_no_reserved other text m at = absurd m.spelled
 
 -- a set is `_`, where that stands there
 pub any_there : (set : PlainKeyset) {a c : List Word} → MayTake (SpellsSet set) a c → Begins (IsReserved (codes "_")) a → (PlainKeyset.Any ≡ set) × MayTake (Reserved (codes "_")) a c
@@ -132,27 +108,15 @@ one_set_there (set ∷ []) m = record { set = set; is = refl; ahead = m }
 one_set_there (set ∷ other ∷ sets) m = absurd m.spelled
 
 -- no set begins with an opening bracket
-value_no_sign : (value : PlainExpr) {a c : List Word} (sign : List ℕ) → MayTake (SpellsValue value) a c → Begins (IsSign sign) a → ⊥
+pub value_no_sign : (value : PlainExpr) {a c : List Word} (sign : List ℕ) → MayTake (SpellsValue value) a c → Begins (IsSign sign) a → ⊥
 value_no_sign (PlainExpr.Num width number) {a = a} sign m at = not_sign sign a (λ word h. ap is_sign h) (begins (of_where m)) at
 value_no_sign (PlainExpr.Named name) {a = a} sign m at = not_sign sign a (λ word h. ap is_sign h.0) (begins m) at
-value_no_sign (PlainExpr.Truth truth) sign m at = absurd m.spelled
-value_no_sign (PlainExpr.At lval) sign m at = absurd m.spelled
-value_no_sign (PlainExpr.IsValid header) sign m at = absurd m.spelled
-value_no_sign (PlainExpr.Unary op of) sign m at = absurd m.spelled
-value_no_sign (PlainExpr.Binary op left right) sign m at = absurd m.spelled
-value_no_sign (PlainExpr.Cast width of) sign m at = absurd m.spelled
-value_no_sign (PlainExpr.Slice of high low) sign m at = absurd m.spelled
-value_no_sign (PlainExpr.Hash number of modulus) sign m at = absurd m.spelled
+value_no_sign other sign m at = absurd m.spelled
 
 pub set_no_sign : (set : PlainKeyset) {a c : List Word} (sign : List ℕ) → MayTake (SpellsSet set) a c → Begins (IsSign sign) a → ⊥
 set_no_sign (PlainKeyset.One value) sign m at = value_no_sign value sign m at
 set_no_sign (PlainKeyset.Masked value mask) sign m at = value_no_sign value sign (split m).first at
 set_no_sign PlainKeyset.Any {a = a} sign m at = not_sign sign a (λ word h. reserved_no_sign word.kind h.0) (begins m) at
-
--- where the bracket closes, no value is left
-pub no_values : (values : List PlainExpr) {a c : List Word} → MayTake (Commas SpellsValue values) a c → Begins (IsSign (codes ")")) a → ([] ≡ values) × (a ≡ c)
-no_values [] m at = (refl, empty_same m)
-no_values (value ∷ values) m at = absurd (value_no_sign value (codes ")") (split m).first at)
 
 -- sets in brackets, where a bracket stands there; else one set
 one_no_sign : (sets : List PlainKeyset) {a c : List Word} (sign : List ℕ) → MayTake (SpellsOneSet sets) a c → Begins (IsSign sign) a → ⊥

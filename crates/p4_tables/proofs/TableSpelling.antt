@@ -11,7 +11,7 @@ use Rattle.spelling.proofs.Deeper.{Under, itself, under_both}
 use Rattle.spelling.specs.Readers.{InCurly, Many}
 use Rattle.spelling.proofs.Taking.{takes_as}
 use Rattle.p4_tables.specs.declared.properties.Part.{Part}
-use Rattle.p4_tables.specs.Reading.{Apart, SpellsProperties}
+use Rattle.p4_tables.specs.Reading.{OfDifferentKinds, SpellsProperties}
 use Rattle.p4_tables.specs.Seen.{seen_part}
 use Rattle.p4_tables.specs.Tables.{Property, SpellsProperty, SpellsTable, kind_of, table_with}
 use Rattle.p4_tables.proofs.PropertySpelling.{FirstWords, first_words}
@@ -22,10 +22,10 @@ pub record Built (name : List ℕ) (parts left : List Part) (table : PlainTable)
   pub whole : parts ≡ left ++ done
   pub is : table ≡ table_with name (map seen_part done)
 
-pub apart_before : (read : List Property) (one : Property) (later all : List Property) → all ≡ read ++ one ∷ later → Apart all → All (λ other. kind_of other ≢ kind_of one) read
+pub apart_before : (read : List Property) (one : Property) (later all : List Property) → all ≡ read ++ one ∷ later → OfDifferentKinds all → All (λ other. kind_of other ≢ kind_of one) read
 apart_before read one later all whole apart = λ k d within.
-    let Both : List Property → Type 0 = Apart in
-    let h : Apart (read ++ one ∷ later) = subst Both whole apart in
+    let Both : List Property → Type 0 = OfDifferentKinds in
+    let h : OfDifferentKinds (read ++ one ∷ later) = subst Both whole apart in
     let long : length (read ++ one ∷ later) ≡ length read + length (one ∷ later) = length-append read (one ∷ later) in
     let here : length read < length (read ++ one ∷ later) = omega (arith, long, add-one (length later)) in
     λ same. h k (length read) d within here (ap kind_of (get_or_append_left read (one ∷ later) d k within) ∙ same ∙ ap kind_of (sym (get_or-append_seam read one later d)))
@@ -34,7 +34,7 @@ apart_before read one later all whole apart = λ k d within.
 abbrev pub TableWords : List ℕ → List Property → ℕ → Grammar
 TableWords name properties depth = Reserved (codes "table") ⨟ Named name ⨟ InCurly SpellsProperties depth properties
 
-in_curly : (depth : ℕ) (properties : List Property) → Apart properties → Under (InCurly (Many SpellsProperty) depth properties) (InCurly SpellsProperties depth properties)
+in_curly : (depth : ℕ) (properties : List Property) → OfDifferentKinds properties → Under (InCurly (Many SpellsProperty) depth properties) (InCurly SpellsProperties depth properties)
 in_curly zero properties apart ws h = absurd h
 in_curly (suc depth) properties apart ws h = under_both (itself (Sign (codes "{"))) (under_both (λ ws g. (apart, g)) (itself (Sign (codes "}")))) ws h
 
@@ -42,7 +42,7 @@ out_of_curly : (depth : ℕ) (properties : List Property) → Under (InCurly Spe
 out_of_curly zero properties ws h = absurd h
 out_of_curly (suc depth) properties ws h = under_both (itself (Sign (codes "{"))) (under_both (λ ws g. g.1) (itself (Sign (codes "}")))) ws h
 
-apart_in : (depth : ℕ) (properties : List Property) (ws : List Word) → InCurly SpellsProperties depth properties ws → Apart properties
+apart_in : (depth : ℕ) (properties : List Property) (ws : List Word) → InCurly SpellsProperties depth properties ws → OfDifferentKinds properties
 apart_in zero properties ws h = absurd h
 apart_in (suc depth) properties ws h = h.second.first.0
 
@@ -54,7 +54,7 @@ with_name name (Property.Fallback action arguments ∷ properties) = with_name n
 with_name name (Property.Size size ∷ properties) = with_name name properties
 with_name name (Property.Entries entries ∷ properties) = with_name name properties
 
-pub no_pairs : Apart []
+pub no_pairs : OfDifferentKinds []
 no_pairs = λ i j d less inside. absurd (omega (arith, inside))
 
 pub may_where : {fact : Type 0} {Of : Grammar} {a b : List Word} → fact → MayTake Of a b → MayTake (Where fact Of) a b

@@ -10,14 +10,7 @@ use Rattle.p4_tables.specs.Tables.{PerhapsConst, Property, SpellsActionCall, Spe
 pub value_stays : {depth : ℕ} (value : PlainExpr) → Stays depth (SpellsValue value)
 value_stays (PlainExpr.Num width value) = number_stays width value
 value_stays (PlainExpr.Named name) = stays_named name
-value_stays (PlainExpr.Truth truth) = λ ws h. absurd h
-value_stays (PlainExpr.At lval) = λ ws h. absurd h
-value_stays (PlainExpr.IsValid header) = λ ws h. absurd h
-value_stays (PlainExpr.Unary op of) = λ ws h. absurd h
-value_stays (PlainExpr.Binary op left right) = λ ws h. absurd h
-value_stays (PlainExpr.Cast width of) = λ ws h. absurd h
-value_stays (PlainExpr.Slice of high low) = λ ws h. absurd h
-value_stays (PlainExpr.Hash number of modulus) = λ ws h. absurd h
+value_stays other = λ ws h. absurd h
 
 pub set_stays : {depth : ℕ} (set : PlainKeyset) → Stays depth (SpellsSet set)
 set_stays (PlainKeyset.One value) = value_stays value

@@ -1,25 +1,15 @@
 -- What the readers of the parts of a table owe, in one fact each; this project's own.
 use Rattle.std.specs.Prelude.{◌≡◌, ◌≢◌, ℕ, ◌≤◌, List, All, AllPairs, Result, IfOk, IfErr, codes, map}
 use Rattle.spelling.specs.Words.{Word}
-use Rattle.spelling.specs.Grammar.{Grammar, Begins, Each, IsNamed, IsSign, Where}
-use Rattle.spelling.specs.Reading.{ahead, Takes, MayTake, IsAnswer, IsRead, IsReading}
-use Rattle.spelling.specs.Bounds.{IfTooDeep, IsNeverDeep, Opens, OpensNext, Stops}
+use Rattle.spelling.specs.Grammar.{Grammar, Begins, Each, IsNamed, Where}
+use Rattle.spelling.specs.Reading.{ahead, Takes, MayTake, IsRead, IsReading}
+use Rattle.spelling.specs.Bounds.{IfTooDeep, Opens, OpensNext, Stops}
 use Rattle.spelling.specs.declared.error.SyntaxError.{SyntaxError}
 use Rattle.spelling.specs.declared.reader.Reader.{Reader}
 use Rattle.p4_tables.specs.declared.properties.Kind.{Kind}
 use Rattle.p4_tables.specs.declared.properties.Part.{Part}
 use Rattle.p4_tables.specs.Seen.{seen_part}
 use Rattle.p4_tables.specs.Tables.{Property, Says, SpellsProperty, kind_of, property_of}
-
--- A reader of perhaps no words, which are followed by others that begin so; it opens no bracket that a depth could forbid.
-pub record ReadsWordsUpTo {A B : Type 0} (Follows : Grammar) (Of : B → Grammar) (seen : A → B) (before after : Reader) (result : Result A SyntaxError) : Type 0 where
-  pub taken : IfOk result (λ read. MayTake (Of (seen read)) (ahead before) (ahead after))
-  pub only : (x : B) (rest : List Word) → MayTake (Of x) (ahead before) rest → Follows rest → IsAnswer seen x rest (ahead after) result
-  pub shallow : IfErr result IsNeverDeep
-
--- the closing bracket of a list of values stands first
-abbrev pub EndsRound : Grammar
-EndsRound = Begins (IsSign (codes ")"))
 
 -- a default action stands next
 abbrev pub DefaultsNext : Grammar
@@ -37,11 +27,11 @@ pub record ReadsOfKind (kind : Kind) (depth : ℕ) (before after : Reader) (resu
   pub deep : IfErr result (IfTooDeep (Stops (Opens depth) OpensNext (ahead before) (ahead after)))
 
 -- properties of a table, no two of one kind
-abbrev pub Apart : List Property → Type 0
-Apart properties = AllPairs (λ one other. kind_of one ≢ kind_of other) properties
+abbrev pub OfDifferentKinds : List Property → Type 0
+OfDifferentKinds properties = AllPairs (λ one other. kind_of one ≢ kind_of other) properties
 
 abbrev pub SpellsProperties : ℕ → List Property → Grammar
-SpellsProperties depth properties = Where (Apart properties) (Each (SpellsProperty depth) properties)
+SpellsProperties depth properties = Where (OfDifferentKinds properties) (Each (SpellsProperty depth) properties)
 
 -- A reader of a property of another kind than these.
 pub record ReadsOther (parts : List Part) (depth : ℕ) (before after : Reader) (result : Result Part SyntaxError) : Type 0 where

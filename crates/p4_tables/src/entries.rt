@@ -1,8 +1,7 @@
 //! The keys, the actions and the entries of a table.
 
 ghost use Rattle.elastic_ast.specs.Seen.{seen_entry};
-ghost use Rattle.spelling.specs.Readers.{ClosesNext, Many, itself, Reads, ReadsWithin, ReadsUpTo};
-ghost use Rattle.p4_tables.specs.Reading.{ReadsWordsUpTo};
+ghost use Rattle.spelling.specs.Readers.{ClosesNext, Many, Reads, ReadsUpTo, ReadsWithin, ReadsWordsUpTo, itself};
 ghost use Rattle.p4_tables.specs.Seen.{seen_call, seen_entries};
 ghost use Rattle.p4_tables.specs.Tables.{SpellsActionCall, SpellsActionName, SpellsActionNames, SpellsEntries, SpellsEntry, SpellsKey, SpellsMatch};
 
@@ -10,32 +9,28 @@ use crate::sets::{sets, values};
 use elastic_ast::{Entry, Expr, Key};
 use elx_bits::{Items, Name};
 use p4_expr::lval;
-use spelling::{Reader, SyntaxError, then_sign, until};
+use spelling::{Parsed, Reader, then_sign, until_closed};
 use std::alloc::Global;
 
 /// Reads keys up to the closing bracket. `depth` is how many brackets may be open from here on.
-pub fn keys(alloc: Global, reader: &mut Reader<'_>, depth: u32) -> Result<Items<Key>, SyntaxError>
+pub fn keys(alloc: Global, reader: &mut Reader<'_>, depth: u32) -> Parsed<Items<Key>>
     ensures { ReadsUpTo ClosesNext (Many SpellsKey) itself depth reader.old reader.new result }
 {
-    until(alloc, reader, b"}", |reader| key(alloc, reader, depth))
+    until_closed(alloc, reader, |reader| key(alloc, reader, depth))
 }
 
 /// Reads names, each with a semicolon, up to the closing bracket.
-pub fn names(alloc: Global, reader: &mut Reader<'_>) -> Result<Items<Name>, SyntaxError>
+pub fn names(alloc: Global, reader: &mut Reader<'_>) -> Parsed<Items<Name>>
     ensures { ReadsWordsUpTo ClosesNext SpellsActionNames itself reader.old reader.new result }
 {
-    until(alloc, reader, b"}", |reader| action_name(alloc, reader))
+    until_closed(alloc, reader, |reader| action_name(alloc, reader))
 }
 
 /// Reads entries up to the closing bracket. `depth` is how many brackets may be open from here on.
-pub fn entries(
-    alloc: Global,
-    reader: &mut Reader<'_>,
-    depth: u32,
-) -> Result<Items<Entry>, SyntaxError>
+pub fn entries(alloc: Global, reader: &mut Reader<'_>, depth: u32) -> Parsed<Items<Entry>>
     ensures { ReadsUpTo ClosesNext SpellsEntries seen_entries depth reader.old reader.new result }
 {
-    until(alloc, reader, b"}", |reader| entry(alloc, reader, depth))
+    until_closed(alloc, reader, |reader| entry(alloc, reader, depth))
 }
 
 /// `ACTION(VALUES);`
@@ -43,7 +38,7 @@ pub fn action_call(
     alloc: Global,
     reader: &mut Reader<'_>,
     depth: u32,
-) -> Result<(Name, Items<Expr>), SyntaxError>
+) -> Parsed<(Name, Items<Expr>)>
     ensures { ReadsWithin SpellsActionCall seen_call depth reader.old reader.new result }
 {
     let action = reader.name(alloc)?;
@@ -52,7 +47,7 @@ pub fn action_call(
 }
 
 /// `ACTION;`
-fn action_name(alloc: Global, reader: &mut Reader<'_>) -> Result<Name, SyntaxError>
+fn action_name(alloc: Global, reader: &mut Reader<'_>) -> Parsed<Name>
     ensures { Reads SpellsActionName itself reader.old reader.new result }
 {
     let name = reader.name(alloc)?;
@@ -61,28 +56,25 @@ fn action_name(alloc: Global, reader: &mut Reader<'_>) -> Result<Name, SyntaxErr
 }
 
 /// `SETS: ACTION(VALUES);`
-fn entry(alloc: Global, reader: &mut Reader<'_>, depth: u32) -> Result<Entry, SyntaxError>
+fn entry(alloc: Global, reader: &mut Reader<'_>, depth: u32) -> Parsed<Entry>
     ensures { ReadsWithin SpellsEntry seen_entry depth reader.old reader.new result }
 {
-    let keys = sets(alloc, reader, depth)?;
-    reader.sign(b":")?;
+    let keys = then_sign(reader, b":", |reader| sets(alloc, reader, depth))?;
     let (action, args) = action_call(alloc, reader, depth)?;
     Ok(Entry { keys, action, args })
 }
 
 /// `PLACE: exact;` or `PLACE: ternary;`
-fn key(alloc: Global, reader: &mut Reader<'_>, depth: u32) -> Result<Key, SyntaxError>
+fn key(alloc: Global, reader: &mut Reader<'_>, depth: u32) -> Parsed<Key>
     ensures { ReadsWithin SpellsKey itself depth reader.old reader.new result }
 {
-    let field = lval(alloc, reader, depth)?;
-    reader.sign(b":")?;
-    let ternary = is_ternary(reader)?;
-    reader.sign(b";")?;
+    let field = then_sign(reader, b":", |reader| lval(alloc, reader, depth))?;
+    let ternary = then_sign(reader, b";", |reader| is_ternary(reader))?;
     Ok(Key { field, ternary })
 }
 
 /// Reads how a key matches: whether it is ternary.
-fn is_ternary(reader: &mut Reader<'_>) -> Result<bool, SyntaxError>
+fn is_ternary(reader: &mut Reader<'_>) -> Parsed<bool>
     ensures { Reads SpellsMatch itself reader.old reader.new result }
 {
     if reader.is_at_name(b"ternary") {

@@ -3,15 +3,15 @@
 ghost use Rattle.std.specs.Prelude.{◌≡◌, IfErr};
 ghost use Rattle.spelling.specs.Reading.{ahead};
 ghost use Rattle.spelling.specs.Bounds.{IsNeverDeep};
-ghost use Rattle.spelling.specs.Readers.{itself, Reads, ReadsWithin};
-ghost use Rattle.p4_tables.specs.Reading.{DefaultsNext, IsKindAhead, ReadsOfKind, ReadsWordsUpTo};
+ghost use Rattle.spelling.specs.Readers.{Reads, ReadsWithin, ReadsWordsUpTo, itself};
+ghost use Rattle.p4_tables.specs.Reading.{DefaultsNext, IsKindAhead, ReadsOfKind};
 ghost use Rattle.p4_tables.specs.Seen.{seen_call, seen_entries, seen_part};
 ghost use Rattle.p4_tables.specs.Tables.{SpellsActions, SpellsConstEntries, SpellsFallback, SpellsKeys, PerhapsConst, SpellsSize, kind_of};
 
 use crate::entries::{action_call, entries, keys, names};
 use elastic_ast::{Entry, Expr, Key};
 use elx_bits::{Items, Name};
-use spelling::{Reader, SyntaxError, in_brackets};
+use spelling::{Brackets, Parsed, Reader};
 use std::alloc::Global;
 
 /// What one property of a table says.
@@ -51,7 +51,7 @@ impl Part {
 
 /// The kind of the property that begins at the next token. NotProgram where none begins there: it names that token, or the one
 /// behind it where that doesn't go on `const`.
-pub fn kind_ahead(reader: &Reader<'_>) -> Result<Kind, SyntaxError>
+pub fn kind_ahead(reader: &Reader<'_>) -> Parsed<Kind>
     ensures only { IsKindAhead (ahead reader.now) result }
     ensures shallow { IfErr result IsNeverDeep }
 {
@@ -81,12 +81,7 @@ pub fn kind_ahead(reader: &Reader<'_>) -> Result<Kind, SyntaxError>
 }
 
 /// Reads the property of this kind. `depth` is how many brackets may be open from here on.
-pub fn property(
-    alloc: Global,
-    reader: &mut Reader<'_>,
-    depth: u32,
-    kind: Kind,
-) -> Result<Part, SyntaxError>
+pub fn property(alloc: Global, reader: &mut Reader<'_>, depth: u32, kind: Kind) -> Parsed<Part>
     ensures { ReadsOfKind kind depth reader.old reader.new result }
 {
     match kind {
@@ -102,39 +97,25 @@ pub fn property(
 }
 
 /// `key = { KEYS }`
-fn key_block(alloc: Global, reader: &mut Reader<'_>, depth: u32) -> Result<Items<Key>, SyntaxError>
+fn key_block(alloc: Global, reader: &mut Reader<'_>, depth: u32) -> Parsed<Items<Key>>
     ensures { ReadsWithin SpellsKeys itself depth reader.old reader.new result }
 {
     reader.fixed_name(b"key")?;
     reader.sign(b"=")?;
-    in_brackets(
-        reader,
-        b"{",
-        b"}",
-        depth,
-        |reader, inner| keys(alloc, reader, inner),
-    )
+    Brackets::Curly(depth).around(reader, |reader, inner| keys(alloc, reader, inner))
 }
 
 /// `actions = { NAMES }`
-fn action_block(
-    alloc: Global,
-    reader: &mut Reader<'_>,
-    depth: u32,
-) -> Result<Items<Name>, SyntaxError>
+fn action_block(alloc: Global, reader: &mut Reader<'_>, depth: u32) -> Parsed<Items<Name>>
     ensures { ReadsWithin SpellsActions itself depth reader.old reader.new result }
 {
     reader.fixed_name(b"actions")?;
     reader.sign(b"=")?;
-    in_brackets(reader, b"{", b"}", depth, |reader, _| names(alloc, reader))
+    Brackets::Curly(depth).around(reader, |reader, _| names(alloc, reader))
 }
 
 /// `default_action = ACTION(VALUES);`, with `const` before it or without.
-fn fallback(
-    alloc: Global,
-    reader: &mut Reader<'_>,
-    depth: u32,
-) -> Result<(Name, Items<Expr>), SyntaxError>
+fn fallback(alloc: Global, reader: &mut Reader<'_>, depth: u32) -> Parsed<(Name, Items<Expr>)>
     ensures { ReadsWithin SpellsFallback seen_call depth reader.old reader.new result }
 {
     const_before(reader)?;
@@ -144,7 +125,7 @@ fn fallback(
 }
 
 /// `size = NUMBER;`
-fn size(reader: &mut Reader<'_>) -> Result<u32, SyntaxError>
+fn size(reader: &mut Reader<'_>) -> Parsed<u32>
     ensures { Reads SpellsSize itself reader.old reader.new result }
 {
     reader.fixed_name(b"size")?;
@@ -155,27 +136,17 @@ fn size(reader: &mut Reader<'_>) -> Result<u32, SyntaxError>
 }
 
 /// `const entries = { ENTRIES }`
-fn entry_block(
-    alloc: Global,
-    reader: &mut Reader<'_>,
-    depth: u32,
-) -> Result<Items<Entry>, SyntaxError>
+fn entry_block(alloc: Global, reader: &mut Reader<'_>, depth: u32) -> Parsed<Items<Entry>>
     ensures { ReadsWithin SpellsConstEntries seen_entries depth reader.old reader.new result }
 {
     reader.reserved(b"const")?;
     reader.fixed_name(b"entries")?;
     reader.sign(b"=")?;
-    in_brackets(
-        reader,
-        b"{",
-        b"}",
-        depth,
-        |reader, inner| entries(alloc, reader, inner),
-    )
+    Brackets::Curly(depth).around(reader, |reader, inner| entries(alloc, reader, inner))
 }
 
 /// Goes over `const`, where it is there.
-fn const_before(reader: &mut Reader<'_>) -> Result<(), SyntaxError>
+fn const_before(reader: &mut Reader<'_>) -> Parsed<()>
     ensures { ReadsWordsUpTo DefaultsNext PerhapsConst itself reader.old reader.new result }
 {
     if !reader.is_at_reserved(b"const") {

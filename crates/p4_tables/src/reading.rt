@@ -10,13 +10,13 @@ ghost use Rattle.p4_tables.specs.Tables.{SpellsTable, kind_of, table_with, with_
 use crate::properties::{Kind, Part, kind_ahead, property};
 use elastic_ast::Table;
 use elx_bits::{Items, Name};
-use spelling::{Reader, SyntaxError, in_brackets, keep};
+use spelling::{Brackets, Parsed, Reader, keep};
 use std::alloc::Global;
 
 /// Reads a table: `table NAME { PROPERTIES }`, its properties in any order, no two of one kind. `depth` is how many brackets
 /// may be open from here on. NotProgram names the token that doesn't go on what stands before it: the first of a second
 /// property of a kind is such a one. TooDeep names a bracket that `depth` doesn't allow.
-pub fn table(alloc: Global, reader: &mut Reader<'_>, depth: u32) -> Result<Table, SyntaxError>
+pub fn table(alloc: Global, reader: &mut Reader<'_>, depth: u32) -> Parsed<Table>
     ensures { ReadsWithin SpellsTable seen_table depth reader.old reader.new result }
 {
     reader.reserved(b"table")?;
@@ -26,28 +26,14 @@ pub fn table(alloc: Global, reader: &mut Reader<'_>, depth: u32) -> Result<Table
 }
 
 /// `{ PROPERTIES }`
-fn property_block(
-    alloc: Global,
-    reader: &mut Reader<'_>,
-    depth: u32,
-) -> Result<Items<Part>, SyntaxError>
+fn property_block(alloc: Global, reader: &mut Reader<'_>, depth: u32) -> Parsed<Items<Part>>
     ensures { ReadsWithin (InCurly SpellsProperties) seen_parts depth reader.old reader.new result }
 {
-    in_brackets(
-        reader,
-        b"{",
-        b"}",
-        depth,
-        |reader, inner| properties(alloc, reader, inner),
-    )
+    Brackets::Curly(depth).around(reader, |reader, inner| properties(alloc, reader, inner))
 }
 
 /// Reads properties up to the closing bracket, no two of one kind.
-fn properties(
-    alloc: Global,
-    reader: &mut Reader<'_>,
-    depth: u32,
-) -> Result<Items<Part>, SyntaxError>
+fn properties(alloc: Global, reader: &mut Reader<'_>, depth: u32) -> Parsed<Items<Part>>
     ensures { ReadsUpTo ClosesNext SpellsProperties seen_parts depth reader.old reader.new result }
 {
     let mut parts = Items::new(alloc);
@@ -64,7 +50,7 @@ fn other_property(
     reader: &mut Reader<'_>,
     depth: u32,
     parts: &[Part],
-) -> Result<Part, SyntaxError>
+) -> Parsed<Part>
     ensures { ReadsOther parts.now depth reader.old reader.new result }
 {
     let kind = kind_ahead(reader)?;

@@ -2,7 +2,7 @@
 #![tactic(auto)]
 
 ghost use Rattle.std.specs.Prelude.{◌≡◌, IfOk, IsErr};
-ghost use Rattle.p4all_top.specs.Codes.{code_of};
+ghost use Rattle.p4all_top.specs.Codes.{status_code};
 
 use elx_io::{FolderShelf, OutSink};
 use p4all_top::{Status, code, p4all};
@@ -17,8 +17,8 @@ fn main(rt: HostRuntime) -> ExitCode {
 
 /// The exit code of a run: that of its status, and that of want of memory where there was none for the words.
 fn exit_code(ended: Result<Status, AllocError>) -> u8
-    ensures status { IfOk ended (λ status. result ≡ code_of status) }
-    ensures no_words { IsErr ended → result ≡ code_of Status.Memory }
+    ensures status { IfOk ended (λ status. result ≡ status_code status) }
+    ensures no_words { IsErr ended → result ≡ status_code Status.Memory }
 {
     code(ended.unwrap_or(Status::Memory))
 }

@@ -4,7 +4,9 @@ use Rattle.std.proofs.lemmas.Grind.{same_number_lists}
 use Rattle.elastic_ast.specs.Tree.{PlainProgram}
 use Rattle.elastic_ast.specs.Sizes.SizeSums.{symbols_of}
 use Rattle.target_desc.specs.declared.target.Target.{Target}
+use Rattle.target_desc.specs.declared.target.TargetError.TheVariants as described
 use Rattle.target_desc.specs.TargetText.{IsTargetText}
+use Rattle.target_desc.proofs.RefusedTexts.{no_target_of}
 use Rattle.p4all_top.specs.declared.parsing.Refusal.{Refusal}
 use Rattle.p4all_top.specs.declared.parsing.Refusal.TheVariants as refusal
 use Rattle.p4all_top.specs.declared.status.Status.{Status}
@@ -87,24 +89,27 @@ no_source text decls short program (inr none) = none decls program
 
 no_target : (text : List ℕ) (on : Target) → IsDescription text on → IsNoDescription text → ⊥
 no_target text on taken (inl long) = absurd (let s = taken.short in omega arith)
-no_target text on taken (inr none) = none on taken.described
+no_target text on taken (inr none) = none on taken.says
 
 -- a description that is refused isn't taken
 pub refused_target : (text : List ℕ) (why : Refusal) → IsTargetRefused text why → IsNoDescription text
 refused_target text refusal.LongTarget bad = inl bad
-refused_target text refusal.NotYet bad = inr bad.1
+refused_target text refusal.Toml bad = inr (no_target_of text described.NotToml (λ e. cc) bad.1)
+refused_target text refusal.UnknownKey bad = inr (no_target_of text described.UnknownKey (λ e. cc) bad.1)
+refused_target text (refusal.MissingKey key) bad = inr (no_target_of text (described.MissingKey key) (λ e. cc) bad.1)
+refused_target text (refusal.OutOfRange key) bad = inr (no_target_of text (described.OutOfRange key) (λ e. cc) bad.1)
 refused_target text _ bad = absurd bad
 
 -- the end that a program and a target demand is that of the source and the description that lead to them
 ends_both : (source target : List ℕ) (decls : PlainProgram) (on : Target) (ended : Status) → AreTaken source target decls on → EndsOn decls on ended → EndsBy source target ended
 ends_both source target decls on ended taken ends = record {
-  no_source = λ bad. absurd (no_source source decls taken.source_is.short taken.source_is.program.program bad);
+  no_source = λ bad. absurd (no_source source decls taken.source_is.short taken.source_is.says.program bad);
   no_target = λ bad. absurd (no_target target on taken.target_is bad);
   both = λ other there short program described.
       let P : PlainProgram → Type 0 = λ z. EndsOn z there ended in
       let Q : Target → Type 0 = λ z. EndsOn decls z ended in
-      subst P (sym (taken.source_is.program.only other program))
-      (subst Q (one_target target on there taken.target_is.described described.described) ends);
+      subst P (sym (taken.source_is.says.only other program))
+      (subst Q (one_target target on there taken.target_is.says described.says) ends);
 }
 
 -- what a source and a description make of the end

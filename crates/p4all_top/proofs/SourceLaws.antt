@@ -142,8 +142,6 @@ no_other decls supported (number, decl, there, other) =
 
 -- a text that is refused has no program
 pub refused_has_none : (text : List ℕ) (why : Refusal) → IsRefusedBy text why → HasNoProgram text
-refused_has_none text refusal.LongSource bad decls program = bad
-refused_has_none text refusal.LongTarget bad decls program = bad
 refused_has_none text (refusal.Byte at) bad decls program = bad_has_none text at bad.0 program.spelled.tokens program.spelled.tokens_are
 refused_has_none text (refusal.Number at) bad decls program = bad_has_none text at bad.0 program.spelled.tokens program.spelled.tokens_are
 refused_has_none text (refusal.Comment at) bad decls program = bad_has_none text at bad.0 program.spelled.tokens program.spelled.tokens_are
@@ -157,6 +155,7 @@ refused_has_none text refusal.NotYet bad decls program = by bad.not_taken
     by : HasOther bad.program ⊎ (Typed false bad.program → ⊥) → ⊥
     by (inl other) = no_other bad.program (subst (λ (z : PlainProgram). All (λ decl. is_supported decl ≡ true) z) same program.supported) other
     by (inr untyped) = untyped (subst (λ (z : PlainProgram). Typed false z) same program.typed)
+refused_has_none text _ bad decls program = bad
 
 -- a source that is refused isn't taken
 pub refused_source : (text : List ℕ) (why : Refusal) → IsSourceRefused text why → IsNoSource text
@@ -167,4 +166,4 @@ refused_source text (refusal.Comment at) bad = inr (refused_has_none text (refus
 refused_source text (refusal.Syntax token) bad = inr (refused_has_none text (refusal.Syntax token) bad.1)
 refused_source text (refusal.Deep token) bad = inr (refused_has_none text (refusal.Deep token) bad.1)
 refused_source text refusal.NotYet bad = inr (refused_has_none text refusal.NotYet bad.1)
-refused_source text refusal.LongTarget bad = absurd bad.1
+refused_source text _ bad = absurd bad.1

@@ -1,6 +1,8 @@
 -- The lines that the commands print; this project's own.
 use Rattle.std.specs.Prelude.{ℕ, ℤ, pos, List, [], ◌∷◌, codes}
 use Rattle.elx_io.specs.Lines.{with_word, with_number, with_end}
+use Rattle.target_desc.specs.TargetKeys.{key_text}
+use Rattle.target_desc.specs.declared.key_name.KeyName.{KeyName}
 use Rattle.p4all_top.specs.declared.parsing.Refusal.{Refusal}
 use Rattle.p4all_top.specs.declared.parsing.Refusal.TheVariants as refusal
 
@@ -29,9 +31,13 @@ infeasible_text = with_end (with_word [] (codes "infeasible"))
 abbrev pub begun_refusal : List ℕ → List ℕ
 begun_refusal what = with_word (with_word [] (codes "refused")) what
 
+-- the line `refused WHAT CAUSE ..` so far
+abbrev pub begun_cause : List ℕ → List ℕ → List ℕ
+begun_cause what cause = with_word (begun_refusal what) cause
+
 -- the line `refused WHY NAMED`
 abbrev pub refused_text : List ℕ → List ℕ → List ℕ
-refused_text why named = with_end (with_word (begun_refusal why) named)
+refused_text why named = with_end (begun_cause why named)
 
 abbrev pub unbounded_text : List ℕ → List ℕ
 unbounded_text symbol = refused_text (codes "unbounded") symbol
@@ -41,7 +47,11 @@ notyet_text = with_end (begun_refusal (codes "notyet"))
 
 -- the line `refused src CAUSE PLACE`
 abbrev pub source_text : List ℕ → ℕ → List ℕ
-source_text cause place = with_end (with_number (with_word (begun_refusal (codes "src")) cause) (pos place))
+source_text cause place = with_end (with_number (begun_cause (codes "src") cause) (pos place))
+
+-- the line `refused target CAUSE KEY`
+abbrev pub target_text : List ℕ → KeyName → List ℕ
+target_text cause key = with_end (with_word (begun_cause (codes "target") cause) (key_text key))
 
 -- the line of each refusal
 abbrev pub refusal_text : Refusal → List ℕ
@@ -52,4 +62,8 @@ refusal_text (refusal.Number at) = source_text (codes "number") at
 refusal_text (refusal.Comment at) = source_text (codes "comment") at
 refusal_text (refusal.Syntax token) = source_text (codes "syntax") token
 refusal_text (refusal.Deep token) = source_text (codes "deep") token
+refusal_text refusal.Toml = refused_text (codes "target") (codes "toml")
+refusal_text refusal.UnknownKey = refused_text (codes "target") (codes "unknown")
+refusal_text (refusal.MissingKey key) = target_text (codes "missing") key
+refusal_text (refusal.OutOfRange key) = target_text (codes "range") key
 refusal_text refusal.NotYet = notyet_text

@@ -1,4 +1,5 @@
--- The refusals that the errors of the lexer, the parser and the checker stand for; want of memory is none. This project's own.
+-- The refusals that the errors of the lexer, the parser, the checker and the reader of targets stand for; want of memory is none.
+-- This project's own.
 use Rattle.std.specs.Prelude.{Option, Some, None}
 use Rattle.p4_lexer.specs.declared.token.LexError.{LexError}
 use Rattle.p4_lexer.specs.declared.token.LexError.TheVariants as lexed
@@ -6,6 +7,8 @@ use Rattle.spelling.specs.declared.error.SyntaxError.{SyntaxError}
 use Rattle.spelling.specs.declared.error.SyntaxError.TheVariants as parsed
 use Rattle.width_check.specs.declared.checking.CheckError.{CheckError}
 use Rattle.width_check.specs.declared.checking.CheckError.TheVariants as checked
+use Rattle.target_desc.specs.declared.target.TargetError.{TargetError}
+use Rattle.target_desc.specs.declared.target.TargetError.TheVariants as described
 use Rattle.p4all_top.specs.declared.parsing.Refusal.{Refusal}
 use Rattle.p4all_top.specs.declared.parsing.Refusal.TheVariants as refusal
 
@@ -24,3 +27,10 @@ abbrev pub check_refusal : CheckError → Option Refusal
 check_refusal (checked.Broken broken) = Some refusal.NotYet
 check_refusal checked.NotYet = Some refusal.NotYet
 check_refusal checked.Memory = None
+
+abbrev pub target_refusal : TargetError → Option Refusal
+target_refusal described.NotToml = Some refusal.Toml
+target_refusal described.UnknownKey = Some refusal.UnknownKey
+target_refusal (described.MissingKey key) = Some (refusal.MissingKey key)
+target_refusal (described.OutOfRange key) = Some (refusal.OutOfRange key)
+target_refusal described.Memory = None

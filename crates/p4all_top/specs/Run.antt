@@ -69,8 +69,8 @@ pub record Outside : Type 0 where
   pub told : Option (List Call)
   pub written : Option (List ℕ)
 
-abbrev pub outside : {Shelf Sink : Type 0} → (Shelf → Option Files) → (Shelf → Option (List Call)) → (Sink → Option (List ℕ)) → Shelf → Sink → Outside
-outside holds told written shelf out = record { holds = holds shelf; told = told shelf; written = written out }
+abbrev pub told_outside : {Shelf Sink : Type 0} → (Shelf → Option Files) → (Shelf → Option (List Call)) → (Sink → Option (List ℕ)) → Shelf → Sink → Outside
+told_outside holds told written shelf out = record { holds = holds shelf; told = told shelf; written = written out }
 
 -- a run of the command: all that is promised of it but what the faults are
 pub record IsRun (command : Command) (ended : Status) (before now : Outside) : Type 0 where

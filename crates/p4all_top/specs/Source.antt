@@ -15,7 +15,7 @@ use Rattle.p4_parser.specs.Reaching.{ProgramPassed}
 use Rattle.spelling.specs.Bounds.{PassedAt}
 use Rattle.spelling.specs.Words.{words}
 use Rattle.width_check.specs.Supported.{is_supported, HasOther}
-use Rattle.p4all_top.specs.Limits.{most_source}
+use Rattle.p4all_top.specs.Limits.{IsTaken, most_source}
 use Rattle.p4all_top.specs.declared.parsing.Refusal.{Refusal}
 use Rattle.p4all_top.specs.declared.parsing.Refusal.TheVariants as refusal
 
@@ -60,14 +60,13 @@ pub record SpellsOther (text : List ℕ) : Type 0 where
 
 -- why a text spells no typed program of these declarations
 abbrev pub IsRefusedBy : List ℕ → Refusal → Type 0
-IsRefusedBy text refusal.LongSource = ⊥
-IsRefusedBy text refusal.LongTarget = ⊥
 IsRefusedBy text (refusal.Byte at) = IsBad text (lexed.BadByte at)
 IsRefusedBy text (refusal.Number at) = IsBad text (lexed.BadNumber at)
 IsRefusedBy text (refusal.Comment at) = IsBad text (lexed.OpenComment at)
 IsRefusedBy text (refusal.Syntax token) = SpellsNothing text token
 IsRefusedBy text (refusal.Deep token) = SpellsTooDeep text token
 IsRefusedBy text refusal.NotYet = SpellsOther text
+IsRefusedBy text _ = ⊥
 
 -- what is found in a text: its one typed program, or why it spells none
 abbrev pub IsProgramFound : List ℕ → Result (List Decl) Refusal → Type 0
@@ -75,9 +74,8 @@ IsProgramFound text (Ok decls) = IsOnlyProgram text (seen_decls decls)
 IsProgramFound text (Err cause) = IsRefusedBy text cause
 
 -- a source is taken: it is no longer than `most_source` bytes, and spells this program
-pub record IsSource (text : List ℕ) (decls : PlainProgram) : Type 0 where
-  pub short : length text ≤ most_source
-  pub program : IsOnlyProgram text decls
+abbrev pub IsSource : List ℕ → PlainProgram → Type 0
+IsSource = IsTaken most_source IsOnlyProgram
 
 -- a source isn't taken: it is too long, or spells no typed program
 abbrev pub IsNoSource : List ℕ → Type 0

@@ -4,14 +4,14 @@ ghost use Rattle.std.specs.Prelude.{◌≡◌, ◌≤◌, length, IfOk, Some};
 ghost use Rattle.target_desc.specs.InRange.{IsInRange};
 ghost use Rattle.p4all_top.specs.Description.{IsDescriptionFound};
 ghost use Rattle.p4all_top.specs.Limits.{most_source, most_target};
-ghost use Rattle.p4all_top.specs.Refusing.{lexer_refusal, parser_refusal, check_refusal};
+ghost use Rattle.p4all_top.specs.Refusing.{lexer_refusal, parser_refusal, check_refusal, target_refusal};
 ghost use Rattle.p4all_top.specs.Source.{IsProgramFound};
 
 use p4_lexer::{LexError, lex};
 use p4_parser::parse;
 use spelling::SyntaxError;
 use std::alloc::{AllocError, Global};
-use target_desc::{Target, TargetError};
+use target_desc::{KeyName, Target, TargetError};
 use width_check::{CheckError, Checked, check, program};
 
 /// Why a source or a target's description isn't taken. Places in the source are in bytes, and tokens of it are numbered; both
@@ -32,7 +32,15 @@ pub enum Refusal {
     Syntax { token: u32 },
     /// This token of the source passes the number of brackets that may be open, or that of operators of an expression.
     Deep { token: u32 },
-    /// The source has other declarations than those that are taken so far, or isn't typed; or the text describes no target.
+    /// The description is no TOML document.
+    Toml,
+    /// The description has a key that no number of a target has.
+    UnknownKey,
+    /// The description lacks this key of a target, the first that it lacks.
+    MissingKey { key: KeyName },
+    /// The description has no whole number in its range at this key of a target, the first such.
+    OutOfRange { key: KeyName },
+    /// The source has other declarations than those that are taken so far, or isn't typed.
     NotYet,
 }
 
@@ -103,7 +111,19 @@ pub fn target_of(alloc: Global, text: &[u8]) -> Result<Result<Target, Refusal>, 
 {
     match target_desc::read(alloc, text) {
         Ok(target) => Ok(Ok(target)),
-        Err(TargetError::NotYet) => Ok(Err(Refusal::NotYet)),
-        Err(TargetError::Memory) => Err(AllocError),
+        Err(error) => Ok(Err(refused_by_target(error)?)),
+    }
+}
+
+/// The refusal of a description.
+fn refused_by_target(error: TargetError) -> Result<Refusal, AllocError>
+    ensures { IfOk result (λ refusal. target_refusal error ≡ Some refusal) }
+{
+    match error {
+        TargetError::NotToml => Ok(Refusal::Toml),
+        TargetError::UnknownKey => Ok(Refusal::UnknownKey),
+        TargetError::MissingKey { key } => Ok(Refusal::MissingKey { key }),
+        TargetError::OutOfRange { key } => Ok(Refusal::OutOfRange { key }),
+        TargetError::Memory => Err(AllocError),
     }
 }

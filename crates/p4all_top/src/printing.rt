@@ -1,12 +1,14 @@
 //! The lines that the commands print.
 
 ghost use Rattle.std.specs.Prelude.{◌≡◌, ◌≤◌, length, IfOk, OnOk};
-ghost use Rattle.p4all_top.specs.Printed.{with_size, with_utility, sizes_text, infeasible_text, unbounded_text, notyet_text, begun_refusal, refused_text, source_text, refusal_text};
+ghost use Rattle.p4all_top.specs.Printed.{with_size, with_utility, sizes_text, infeasible_text, unbounded_text};
+ghost use Rattle.p4all_top.specs.Printed.{notyet_text, begun_cause, begun_refusal, refused_text, source_text, target_text, refusal_text};
 
 use crate::parsing::Refusal;
 use elx_bits::Name;
 use elx_io::Lines;
 use std::alloc::{AllocError, Global};
+use target_desc::KeyName;
 
 /// Adds the line of one symbol.
 fn put_size(lines: &mut Lines, symbol: &Name, size: u64) -> Result<(), AllocError>
@@ -74,6 +76,10 @@ pub fn refusal_line(alloc: Global, refusal: Refusal) -> Result<Lines, AllocError
         Refusal::Comment { at } => source_line(alloc, b"comment", at),
         Refusal::Syntax { token } => source_line(alloc, b"syntax", token),
         Refusal::Deep { token } => source_line(alloc, b"deep", token),
+        Refusal::Toml => refused_line(alloc, b"target", b"toml"),
+        Refusal::UnknownKey => refused_line(alloc, b"target", b"unknown"),
+        Refusal::MissingKey { key } => target_line(alloc, b"missing", key),
+        Refusal::OutOfRange { key } => target_line(alloc, b"range", key),
         Refusal::NotYet => notyet_line(alloc),
     }
 }
@@ -88,12 +94,30 @@ fn refusal_begun(alloc: Global, what: &[u8]) -> Result<Lines, AllocError>
     Ok(lines)
 }
 
+/// The begin of a line that refuses something for a cause.
+fn cause_begun(alloc: Global, what: &[u8], cause: &[u8]) -> Result<Lines, AllocError>
+    ensures { IfOk result (λ lines. lines ≡ begun_cause what.now cause.now) }
+{
+    let mut lines = refusal_begun(alloc, what)?;
+    lines.word(cause)?;
+    Ok(lines)
+}
+
 /// The line that refuses something for what is named.
 fn refused_line(alloc: Global, why: &[u8], named: &[u8]) -> Result<Lines, AllocError>
     ensures { IfOk result (λ lines. lines ≡ refused_text why.now named.now) }
 {
-    let mut lines = refusal_begun(alloc, why)?;
-    lines.word(named)?;
+    let mut lines = cause_begun(alloc, why, named)?;
+    lines.end()?;
+    Ok(lines)
+}
+
+/// The line that refuses a target's description for what it has at a key.
+fn target_line(alloc: Global, cause: &[u8], key: KeyName) -> Result<Lines, AllocError>
+    ensures { IfOk result (λ lines. lines ≡ target_text cause.now key) }
+{
+    let mut lines = cause_begun(alloc, b"target", cause)?;
+    lines.word(key.text().as_bytes())?;
     lines.end()?;
     Ok(lines)
 }
@@ -102,8 +126,7 @@ fn refused_line(alloc: Global, why: &[u8], named: &[u8]) -> Result<Lines, AllocE
 fn source_line(alloc: Global, cause: &[u8], place: u32) -> Result<Lines, AllocError>
     ensures { IfOk result (λ lines. lines ≡ source_text cause.now place) }
 {
-    let mut lines = refusal_begun(alloc, b"src")?;
-    lines.word(cause)?;
+    let mut lines = cause_begun(alloc, b"src", cause)?;
     lines.number(i128::from(place))?;
     lines.end()?;
     Ok(lines)

@@ -3,7 +3,7 @@
 ghost use Rattle.std.specs.Prelude.{◌≡◌, ◌↔◌, IfOk, IfSome, IsNone};
 ghost use Rattle.p4all_top.specs.Command.{Size, size_in};
 ghost use Rattle.p4all_top.specs.Found.{IsSizeFound, status_of};
-ghost use Rattle.p4all_top.specs.Run.{FaultsAre, HasCalled, IsRun, outside};
+ghost use Rattle.p4all_top.specs.Run.{FaultsAre, HasCalled, IsRun, told_outside};
 ghost use Rattle.p4all_top.specs.Stopping.{StopCounts};
 
 use crate::output::show;
@@ -45,8 +45,8 @@ pub fn do_size<S: Shelf, O: Sink>(
     ensures words { (result ≡ Status.Words) ↔ IsNone (size_in words.now) }
     ensures quiet { result ≡ Status.Words → (shelf.new ≡ shelf.old) × (out.new ≡ out.old) }
     ensures run { IfSome (size_in words.now) (λ command. IsRun command result
-        (outside S.holds S.told O.written shelf.old out.old)
-        (outside S.holds S.told O.written shelf.new out.new)) }
+        (told_outside S.holds S.told O.written shelf.old out.old)
+        (told_outside S.holds S.told O.written shelf.new out.new)) }
     ensures faults { FaultsAre result (S.faults shelf.old) (S.faults shelf.new)
         (O.faults out.old) (O.faults out.new) }
 {

@@ -175,18 +175,13 @@ fn refuses(alloc: Global, source: &[u8], target: &[u8], line: &str) -> Result<bo
 fn what_is_not_built_yet_is_refused(rt: HostRuntime) -> Result<(), Fail> {
     let target = one_stage(rt.alloc(), 64)?;
     let rows = [
-        (
-            "symbolic int s; assume(s <= 1000000); maximize(0 - s);",
-            target.as_str(),
-        ),
-        ("symbolic int s; symbolic int s;", target.as_str()),
-        ("symbolic int a__1;", target.as_str()),
-        ("maximize(x);", target.as_str()),
-        ("header h_t { bit<8> v; }", target.as_str()),
-        ("maximize(7);", "stages = 1\n"),
-        ("symbolic int x;", "stages = 1\n"),
+        "symbolic int s; assume(s <= 1000000); maximize(0 - s);",
+        "symbolic int s; symbolic int s;",
+        "symbolic int a__1;",
+        "maximize(x);",
+        "header h_t { bit<8> v; }",
     ];
-    for (source, target) in rows {
+    for source in rows {
         let refused = refuses(
             rt.alloc(),
             source.as_bytes(),
@@ -195,6 +190,33 @@ fn what_is_not_built_yet_is_refused(rt: HostRuntime) -> Result<(), Fail> {
         )?;
         assert!(rt; refused, "{source}");
     }
+    Ok(())
+}
+
+#[test]
+fn a_description_is_refused_for_its_first_cause(rt: HostRuntime) -> Result<(), Fail> {
+    let numbers =
+        "memory_bits = 1024\nstateful = 2\nstateless = 8\ntable_bits = 1024\nternary_bits = 1024\nheader_bits = 64\n";
+    let rows = [
+        ("stages =", "refused target toml\n"),
+        ("stages = 1\nops = 8\nx = 1\n", "refused target unknown\n"),
+        ("stages = 1\n", "refused target missing ops\n"),
+        ("", "refused target missing stages\n"),
+        ("stages = 65\nops = 8\n", "refused target range stages\n"),
+        ("stages = 1\nops = \"8\"\n", "refused target range ops\n"),
+    ];
+    for (others, line) in rows {
+        let target = format!(in rt.alloc(); "{numbers}{others}")?;
+        let refused = refuses(rt.alloc(), b"maximize(7);", target.as_bytes(), line)?;
+        assert!(rt; refused, "{others}");
+    }
+    let refused = refuses(
+        rt.alloc(),
+        b"symbolic int;",
+        b"stages =",
+        "refused src syntax 2\n",
+    )?;
+    assert!(rt; refused, "the source's cause comes first");
     Ok(())
 }
 

@@ -1,5 +1,5 @@
 ghost use Rattle.std.specs.Prelude.{◌≡◌};
-ghost use Rattle.p4all_top.specs.Codes.{code_of};
+ghost use Rattle.p4all_top.specs.Codes.{status_code};
 
 /// How a run ends: done, refused, with words that are no command, with nothing feasible, unfinished, for want of memory,
 /// by a fault of the shelf or the sink, or with the verdict no.
@@ -17,7 +17,7 @@ pub enum Status {
 
 /// The exit code of a status, from 0 to 7 in the listed order.
 pub fn code(status: Status) -> u8
-    ensures { result ≡ code_of status }
+    ensures { result ≡ status_code status }
 {
     match status {
         Status::Done => 0,

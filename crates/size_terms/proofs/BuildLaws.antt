@@ -25,7 +25,7 @@ use Rattle.elastic_ast.specs.Typing.Typed.{broken_rule, first_of}
 use Rattle.elastic_ast.specs.Sizes.SizeSums.{comps_of, comparisons, util_value, utils_value, utility_terms, symbols_of, IsCounted, Assumes}
 use Rattle.elastic_ast.specs.Sizes.Counted.{counted_in_decl, counted_symbols}
 use Rattle.elastic_ast.proofs.Typing.First.{first-append}
-use Rattle.elastic_ast.proofs.Typing.TypedLaws.{none_both}
+use Rattle.elastic_ast.proofs.Typing.TypedLaws.{if_none, none_both, unmapped}
 use Rattle.width_check.specs.Supported.{is_supported, is_linear}
 use Rattle.width_check.specs.Sound.{IsSound}
 use Rattle.width_check.proofs.CheckLaws.{other_broken, broken_parts}
@@ -39,14 +39,6 @@ use Rattle.size_terms.specs.Building.{is_short, is_near_util, AddsComps}
 use Rattle.size_terms.proofs.CoefficientLaws.{rows_are}
 
 -- tests
-if_none : {A : Type 0} (b : Bool) (x : A) (o : Option A) → (if b then o else Some x) ≡ None → (b ≡ true) × (o ≡ None)
-if_none true x o h = (refl, h)
-if_none false x o h = cc
-
-unmapped : (o : Option Rule) (k : ℕ) → option_map (λ x. let p : Rule × ℕ = (x, k) in p) o ≡ None → o ≡ None
-unmapped None k h = refl
-unmapped (Some x) k h = cc
-
 -- what a declaration asks of itself is met
 own_met : (before : List PlainDecl) (d : PlainDecl) → broken_rule true before d ≡ None → first_broken true (asks_decl before d) ≡ None
 own_met before d h = (if_none (is_first before d) _ (first_broken true (asks_decl before d)) (none_both _ (other_broken true (is_first before d) (first_broken true (asks_decl before d))) (sym (broken_parts true before d (is_first before d) refl) ∙ h)).1).1

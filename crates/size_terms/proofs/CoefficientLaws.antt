@@ -14,7 +14,7 @@ use Rattle.elastic_ast.specs.declared.declarations.Rel.TheVariants as rel
 use Rattle.elastic_ast.specs.declared.flat.Linear.{Linear}
 use Rattle.elastic_ast.specs.Tree.{Name, PlainDecl}
 use Rattle.elastic_ast.specs.Typing.Scope.{same}
-use Rattle.elastic_ast.specs.Sizes.SizeSums.{signed, size_of, count_of, term_value, sum_value, Compares, Holds, symbols_of, comparisons, Compared}
+use Rattle.elastic_ast.specs.Sizes.SizeSums.{negated_if, size_of, count_of, term_value, sum_value, Compares, Holds, symbols_of, comparisons, Compared}
 use Rattle.size_terms.specs.Rows.{dot, RowHolds, RowsHold}
 use Rattle.size_terms.specs.Coefficients.{number_at, symbol_number, lone_number, coefficient, constant_of, row_below, compared_rows, rows_of_comp, rows_of}
 use Rattle.size_terms.proofs.SumLaws.{within_from}
@@ -69,17 +69,17 @@ unsigned_term symbols sizes n None = let e = dot_nothing (places_of symbols) siz
 unsigned_term symbols sizes n (Some name) = let e = dot_place n name 0 symbols sizes in omega (arith, ints, e)
 
 term_dot : (symbols : List Name) (sizes : List ℕ) (t : LinTerm)
-    → dot (map (λ place. signed t.minus (pos (symbol_number symbols place t.by t.symbol))) (places_of symbols)) sizes +ℤ signed t.minus (pos (lone_number t.by t.symbol)) ≡ term_value symbols sizes t
+    → dot (map (λ place. negated_if t.minus (pos (symbol_number symbols place t.by t.symbol))) (places_of symbols)) sizes +ℤ negated_if t.minus (pos (lone_number t.by t.symbol)) ≡ term_value symbols sizes t
 term_dot symbols sizes t =
-    ap (λ z. z +ℤ signed t.minus (pos (lone_number t.by t.symbol))) (dot_signed t.minus (λ place. pos (symbol_number symbols place t.by t.symbol)) (places_of symbols) sizes)
+    ap (λ z. z +ℤ negated_if t.minus (pos (lone_number t.by t.symbol))) (dot_signed t.minus (λ place. pos (symbol_number symbols place t.by t.symbol)) (places_of symbols) sizes)
     ∙ sym (signed_sum t.minus (dot (map (λ place. pos (symbol_number symbols place t.by t.symbol)) (places_of symbols)) sizes) (pos (lone_number t.by t.symbol)))
-    ∙ ap (signed t.minus) (unsigned_term symbols sizes t.by t.symbol)
+    ∙ ap (negated_if t.minus) (unsigned_term symbols sizes t.by t.symbol)
 
 -- a sum of terms is its coefficients times the sizes, and its constant
 pub sum_dot : (symbols : List Name) (sizes : List ℕ) (ts : List LinTerm) → dot (map (coefficient symbols ts) (places_of symbols)) sizes +ℤ constant_of ts ≡ sum_value symbols sizes ts
 sum_dot symbols sizes [] = let e = dot_nothing (places_of symbols) sizes in omega (arith, ints, e)
 sum_dot symbols sizes (t ∷ ts) =
-    let e = dot_sum (λ place. signed t.minus (pos (symbol_number symbols place t.by t.symbol))) (coefficient symbols ts) (places_of symbols) sizes in
+    let e = dot_sum (λ place. negated_if t.minus (pos (symbol_number symbols place t.by t.symbol))) (coefficient symbols ts) (places_of symbols) sizes in
     let f = term_dot symbols sizes t in
     let ih = sum_dot symbols sizes ts in
     omega (arith, ints, e, f, ih)

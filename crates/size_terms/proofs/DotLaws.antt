@@ -5,7 +5,7 @@ use Rattle.std.specs.Prelude.{◌≤ℤ◌}
 use Rattle.std.specs.List.{list_all}
 use Rattle.std.proofs.Math.IntN.{suc_ℤ-*ℤ, zero-*ℤ, *ℤ-zero, pos-*ℤ-pos}
 use Rattle.std.proofs.lemmas.Int.{ints}
-use Rattle.elastic_ast.specs.Sizes.SizeSums.{signed}
+use Rattle.elastic_ast.specs.Sizes.SizeSums.{negated_if}
 use Rattle.size_terms.specs.Rows.{dot, is_whole}
 use Rattle.size_terms.proofs.SumLaws.{times_sum}
 use Rattle.size_terms.proofs.TermLaws.{times_neg}
@@ -26,7 +26,7 @@ dot_neg f [] sizes = refl
 dot_neg f (p ∷ places) [] = refl
 dot_neg f (p ∷ places) (s ∷ sizes) = let e = times_neg s (f p) in let ih = dot_neg f places sizes in omega (arith, ints, e, ih)
 
-pub dot_signed : (minus : Bool) (f : ℕ → ℤ) (places sizes : List ℕ) → dot (map (λ place. signed minus (f place)) places) sizes ≡ signed minus (dot (map f places) sizes)
+pub dot_signed : (minus : Bool) (f : ℕ → ℤ) (places sizes : List ℕ) → dot (map (λ place. negated_if minus (f place)) places) sizes ≡ negated_if minus (dot (map f places) sizes)
 dot_signed true f places sizes = dot_neg f places sizes
 dot_signed false f places sizes = refl
 

@@ -7,6 +7,7 @@ use Rattle.std.specs.Map.{lookup}
 use denote.Bor.{Bor}
 use Rattle.elastic_ast.specs.Tree.{Name}
 use Rattle.elastic_ast.specs.Typing.Scope.{same, or_else}
+use Rattle.width_check.proofs.ScopeLaws.{drop_suc}
 use Rattle.size_terms.specs.Places.{entered, Enters}
 
 -- a look-up in the map is one among the names
@@ -57,15 +58,9 @@ or_both true None rest i = refl
 or_both false None rest i = refl
 or_both b (Some x) rest i = refl
 
-drop_suc : (xs : List Name) (i : ℕ) (x : Name) → i < length xs → x ≡ get_or xs i x → drop i xs ≡ x ∷ drop (suc i) xs
-drop_suc [] i x h e = absurd (omega arith)
-drop_suc (y ∷ ys) zero x h e = ap (λ z. z ∷ ys) (sym e)
-drop_suc (y ∷ ys) (suc i) x h e = drop_suc ys i x (omega arith) e
-
 pub enter_step : (xs : List Name) (i : ℕ) (x m : Name) (old new : List (Bor (List ℕ) × ℕ)) (n : Name) (whole : Option ℕ) → i < length xs → x ≡ get_or xs i x → m ≡ x → Enters old new m i
     → or_else (entered old n) (position_from (same n) i (drop i xs)) ≡ whole → or_else (entered new n) (position_from (same n) (i + 1) (drop (i + 1) xs)) ≡ whole
 enter_step xs i x m old new n whole h e em enters inv =
     ap (λ z. or_else z (position_from (same n) (i + 1) (drop (i + 1) xs))) (enters n ∙ ap (λ z. or_else (entered old n) (if same n z then Some i else None)) em)
     ∙ or_both (same n x) (entered old n) (position_from (same n) (i + 1) (drop (i + 1) xs)) i
-    ∙ ap (λ k. or_else (entered old n) (if same n x then Some i else position_from (same n) (i + 1) (drop k xs))) (add-one i)
     ∙ ap (λ z. or_else (entered old n) (position_from (same n) i z)) (sym (drop_suc xs i x h e)) ∙ inv

@@ -15,9 +15,9 @@ use Rattle.elastic_ast.specs.declared.declarations.Rel.{Rel}
 use Rattle.elastic_ast.specs.declared.declarations.Rel.TheVariants as rel
 use Rattle.elastic_ast.specs.declared.flat.Linear.{Linear}
 use Rattle.elastic_ast.specs.Tree.{Name}
-use Rattle.elastic_ast.specs.Sizes.SizeSums.{sum_value, signed}
+use Rattle.elastic_ast.specs.Sizes.SizeSums.{sum_value, negated_if}
 use Rattle.size_terms.specs.declared.sums.Sum.{Sum}
-use Rattle.size_terms.specs.Rows.{dot, weight, IsShort}
+use Rattle.size_terms.specs.Rows.{dot, coefficient_weight, IsShort}
 use Rattle.size_terms.specs.Coefficients.{coefficient, constant_of, row_below, compared_rows, rows_of_comp}
 use Rattle.size_terms.specs.Growth.{is_near, Grows, IsZero, Negates}
 use Rattle.size_terms.specs.Building.{is_short, IsDifference, row_of_sum, rows_of_sum, RowsShort, AddsComps}
@@ -33,14 +33,14 @@ same_row row by most p q = ap (λ z. let other : Linear = record { by = z; most 
 abs_near : (more : ℕ) (k : ℤ) → more ≤ 1 → unsigned_abs (neg_ℤ k +ℤ neg_ℤ (pos more)) ≤ unsigned_abs k + 1
 abs_near more k h = grind (arith, ints)
 
-row_short : (more : ℕ) (by : List ℤ) (k : ℤ) → more ≤ 1 → weight by + unsigned_abs k ≤ 64000000000 → IsShort (length by) by (neg_ℤ k +ℤ neg_ℤ (pos more))
+row_short : (more : ℕ) (by : List ℤ) (k : ℤ) → more ≤ 1 → coefficient_weight by + unsigned_abs k ≤ 64000000000 → IsShort (length by) by (neg_ℤ k +ℤ neg_ℤ (pos more))
 row_short more by k m h = record {
   dense = refl;
   small = omega arith;
   near = let u = abs_near more k m in omega (arith, u, h);
 }
 
-turned_short : (more : ℕ) (by : List ℤ) (k : ℤ) → more ≤ 1 → weight by + unsigned_abs k ≤ 64000000000 → IsShort (length by) (map neg_ℤ by) (neg_ℤ (neg_ℤ k) +ℤ neg_ℤ (pos more))
+turned_short : (more : ℕ) (by : List ℤ) (k : ℤ) → more ≤ 1 → coefficient_weight by + unsigned_abs k ≤ 64000000000 → IsShort (length by) (map neg_ℤ by) (neg_ℤ (neg_ℤ k) +ℤ neg_ℤ (pos more))
 turned_short more by k m h =
     subst (λ (n : ℕ). IsShort n (map neg_ℤ by) (neg_ℤ (neg_ℤ k) +ℤ neg_ℤ (pos more))) (length-map by neg_ℤ)
     (row_short more (map neg_ℤ by) (neg_ℤ k) m (let u = weight_neg by in let v = abs_neg k in omega (arith, u, v, h)))
@@ -48,7 +48,7 @@ turned_short more by k m h =
 one : (n : ℕ) (row : Linear) → IsShort n row.by row.most → RowsShort n (row ∷ [])
 one n row h = All-cons (λ other. IsShort n other.by other.most) row [] h (All-nil (λ other. IsShort n other.by other.most))
 
-rows_short : (r : Rel) (by : List ℤ) (k : ℤ) → weight by + unsigned_abs k ≤ 64000000000 → RowsShort (length by) (rows_of_sum r by k)
+rows_short : (r : Rel) (by : List ℤ) (k : ℤ) → coefficient_weight by + unsigned_abs k ≤ 64000000000 → RowsShort (length by) (rows_of_sum r by k)
 rows_short rel.Le by k h = one (length by) (row_of_sum 0 by k) (row_short 0 by k (omega arith) h)
 rows_short rel.Lt by k h = one (length by) (row_of_sum 1 by k) (row_short 1 by k (omega arith) h)
 rows_short rel.Ge by k h = one (length by) (row_of_sum 0 (map neg_ℤ by) (neg_ℤ k)) (turned_short 0 by k (omega arith) h)
@@ -135,8 +135,8 @@ short_few : (comp : Comp) → is_short comp ≡ true → length comp.left + leng
 short_few comp h = let e : nat_le (length comp.left + length comp.right) 64 ≡ true = (and_parts (nat_le (length comp.left + length comp.right) 64) (list_all is_near comp.left && list_all is_near comp.right) h).0 in grind (arith, nat_tests)
 
 -- the two sides of a comparison
-pub difference_is : (symbols : List Name) (comp : Comp) (nothing middle sum : Sum) → IsZero nothing (length symbols) → is_short comp ≡ true → Grows nothing middle (λ sizes. signed false (sum_value symbols sizes comp.left)) (1000000000 * length comp.left)
-    → Grows middle sum (λ sizes. signed true (sum_value symbols sizes comp.right)) (1000000000 * length comp.right) → IsDifference symbols comp sum
+pub difference_is : (symbols : List Name) (comp : Comp) (nothing middle sum : Sum) → IsZero nothing (length symbols) → is_short comp ≡ true → Grows nothing middle (λ sizes. negated_if false (sum_value symbols sizes comp.left)) (1000000000 * length comp.left)
+    → Grows middle sum (λ sizes. negated_if true (sum_value symbols sizes comp.right)) (1000000000 * length comp.right) → IsDifference symbols comp sum
 difference_is symbols comp nothing middle sum z short left right = record {
   worth = λ sizes. let a = z.worth sizes in let b = left.worth sizes in let c = right.worth sizes in omega (arith, ints, a, b, c);
   dense = right.dense ∙ left.dense ∙ z.dense;

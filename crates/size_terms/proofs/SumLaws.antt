@@ -13,7 +13,7 @@ use Rattle.elastic_ast.specs.Typing.Scope.{same}
 use Rattle.elastic_ast.specs.Sizes.SizeSums.{size_of}
 use Rattle.size_terms.specs.Places.{place_of}
 use Rattle.size_terms.specs.declared.sums.Sum.{Sum}
-use Rattle.size_terms.specs.Rows.{dot, weight}
+use Rattle.size_terms.specs.Rows.{dot, coefficient_weight}
 use Rattle.size_terms.specs.Growth.{Grows}
 
 -- a place is within the symbols
@@ -81,7 +81,7 @@ dot_set (a ∷ by) [] (suc i) x h = let u : pos 0 *ℤ x ≡ pos 0 = zero-*ℤ x
 dot_set (a ∷ by) (s ∷ sizes) zero x h = let u = times_sum s a x in omega (arith, ints, u)
 dot_set (a ∷ by) (s ∷ sizes) (suc i) x h = let ih = dot_set by sizes i x (omega arith) in omega (arith, ints, ih)
 
-pub weight_at : (by : List ℤ) (i : ℕ) → unsigned_abs (get_or by i (pos 0)) ≤ weight by
+pub weight_at : (by : List ℤ) (i : ℕ) → unsigned_abs (get_or by i (pos 0)) ≤ coefficient_weight by
 weight_at [] i = omega arith
 weight_at (a ∷ by) zero = omega arith
 weight_at (a ∷ by) (suc i) = let ih = weight_at by i in omega (arith, ih)
@@ -89,7 +89,7 @@ weight_at (a ∷ by) (suc i) = let ih = weight_at by i in omega (arith, ih)
 abs_sum : (a x : ℤ) → unsigned_abs (a +ℤ x) ≤ unsigned_abs a + unsigned_abs x
 abs_sum a x = grind (arith, ints)
 
-pub weight_set : (by : List ℤ) (i : ℕ) (x : ℤ) → weight (set by i (get_or by i (pos 0) +ℤ x)) ≤ weight by + unsigned_abs x
+pub weight_set : (by : List ℤ) (i : ℕ) (x : ℤ) → coefficient_weight (set by i (get_or by i (pos 0) +ℤ x)) ≤ coefficient_weight by + unsigned_abs x
 weight_set [] i x = omega arith
 weight_set (a ∷ by) zero x = let u = abs_sum a x in omega (arith, u)
 weight_set (a ∷ by) (suc i) x = let ih = weight_set by i x in omega (arith, ih)
@@ -126,7 +126,7 @@ grows_at symbols old new n p r number y place dense here sum at kept =
           omega (arith, ints, e, f, kept);
       dense = ap length changed ∙ length-set old.by.items p (get_or old.by.items p (pos 0) +ℤ number);
       bulky =
-          let e : weight new.by.items ≡ weight (set old.by.items p (get_or old.by.items p (pos 0) +ℤ number)) = ap weight changed in
+          let e : coefficient_weight new.by.items ≡ coefficient_weight (set old.by.items p (get_or old.by.items p (pos 0) +ℤ number)) = ap coefficient_weight changed in
           let f = weight_set old.by.items p number in
           let g : unsigned_abs new.constant ≡ unsigned_abs old.constant = ap unsigned_abs kept in
           omega (arith, e, f, g);

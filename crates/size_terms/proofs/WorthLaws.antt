@@ -5,7 +5,7 @@ use Rattle.std.proofs.lemmas.Int.{ints, to_z-of_z, unsigned_abs-mul}
 use mir.Val.{to_z, of_z}
 use mir.Syntax.{w128}
 use Rattle.width_check.proofs.Steps.{items_drop}
-use Rattle.size_terms.specs.Rows.{dot, weight}
+use Rattle.size_terms.specs.Rows.{dot, coefficient_weight}
 use Rattle.size_terms.proofs.SumLaws.{fits_small, fits_sum}
 
 -- a size of 64 bits times a small coefficient
@@ -30,8 +30,8 @@ dot_step by sizes i h k =
     here_n (x ∷ xs) zero = refl
     here_n (x ∷ xs) (suc i) = here_n xs i
 
-weight_step : (by : List ℤ) (i : ℕ) → i < length by → weight (drop i by) ≡ unsigned_abs (get_or by i (pos 0)) + weight (drop (i + 1) by)
-weight_step by i h = ap weight (items_drop by i (get_or by i (pos 0)) h (here by i))
+weight_step : (by : List ℤ) (i : ℕ) → i < length by → coefficient_weight (drop i by) ≡ unsigned_abs (get_or by i (pos 0)) + coefficient_weight (drop (i + 1) by)
+weight_step by i h = ap coefficient_weight (items_drop by i (get_or by i (pos 0)) h (here by i))
   where
     here : (xs : List ℤ) (i : ℕ) → get_or xs i (pos 0) ≡ get_or xs i (get_or xs i (pos 0))
     here [] i = refl
@@ -41,14 +41,14 @@ weight_step by i h = ap weight (items_drop by i (get_or by i (pos 0)) h (here by
 -- what the sum is after one more product, and what is left of its bound
 pub record Sums (by : List ℤ) (sizes : List ℕ) (i : ℕ) (sum : ℤ) : Type 0 where
   pub value : sum +ℤ dot (drop i by) (drop i sizes) ≡ dot by sizes
-  pub most : unsigned_abs sum + weight (drop i by) * 2 ^ 64 ≤ weight by * 2 ^ 64
+  pub most : unsigned_abs sum + coefficient_weight (drop i by) * 2 ^ 64 ≤ coefficient_weight by * 2 ^ 64
 
-pub sums_step : (by : List ℤ) (sizes : List ℕ) (i : ℕ) (sum product : ℤ) → i < length by → length by ≡ length sizes → weight by ≤ 64000000000 → get_or sizes i 0 < 2 ^ 64
+pub sums_step : (by : List ℤ) (sizes : List ℕ) (i : ℕ) (sum product : ℤ) → i < length by → length by ≡ length sizes → coefficient_weight by ≤ 64000000000 → get_or sizes i 0 < 2 ^ 64
     → product ≡ pos (get_or sizes i 0) *ℤ to_z w128 (of_z w128 (get_or by i (pos 0))) → Sums by sizes i sum → Sums by sizes (i + 1) (to_z w128 (of_z w128 (sum +ℤ to_z w128 (of_z w128 product))))
 sums_step by sizes i sum product h dense small size e inv =
     let b : ℤ = get_or by i (pos 0) in
-    let w : weight (drop i by) ≡ unsigned_abs b + weight (drop (i + 1) by) = weight_step by i h in
-    let w2 : weight (drop i by) * 2 ^ 64 ≡ unsigned_abs b * 2 ^ 64 + weight (drop (i + 1) by) * 2 ^ 64 = ap (λ z. z * 2 ^ 64) w ∙ spread (unsigned_abs b) (weight (drop (i + 1) by)) in
+    let w : coefficient_weight (drop i by) ≡ unsigned_abs b + coefficient_weight (drop (i + 1) by) = weight_step by i h in
+    let w2 : coefficient_weight (drop i by) * 2 ^ 64 ≡ unsigned_abs b * 2 ^ 64 + coefficient_weight (drop (i + 1) by) * 2 ^ 64 = ap (λ z. z * 2 ^ 64) w ∙ spread (unsigned_abs b) (coefficient_weight (drop (i + 1) by)) in
     let near : unsigned_abs b ≤ 64000000000 = omega (arith, w, w2, inv.most, small) in
     let p : product ≡ pos (get_or sizes i 0) *ℤ b = e ∙ ap (λ z. pos (get_or sizes i 0) *ℤ z) (to_z-of_z w128 b (fits_small b (omega (arith, near)))) in
     let q : unsigned_abs product ≤ unsigned_abs b * 2 ^ 64 = subst (λ (z : ℤ). unsigned_abs z ≤ unsigned_abs b * 2 ^ 64) (sym p) (product_below (get_or sizes i 0) b size) in

@@ -8,7 +8,7 @@ use Rattle.elastic_ast.specs.declared.declarations.Rel.{Rel}
 use Rattle.elastic_ast.specs.declared.declarations.Rel.TheVariants as rel
 use Rattle.elastic_ast.specs.declared.flat.Linear.{Linear}
 use Rattle.elastic_ast.specs.Tree.{Name, PlainDecl}
-use Rattle.elastic_ast.specs.Sizes.SizeSums.{signed, symbols_of, comparisons}
+use Rattle.elastic_ast.specs.Sizes.SizeSums.{negated_if, symbols_of, comparisons}
 use Rattle.size_terms.specs.Places.{place_of}
 
 -- a number at one place, and 0 at every other
@@ -29,12 +29,12 @@ lone_number number (Some name) = 0
 -- the coefficient of a symbol in a sum: the numbers of its terms with their signs, added up
 abbrev pub coefficient : List Name → List LinTerm → ℕ → ℤ
 coefficient symbols [] place = pos 0
-coefficient symbols (term ∷ terms) place = signed term.minus (pos (symbol_number symbols place term.by term.symbol)) +ℤ coefficient symbols terms place
+coefficient symbols (term ∷ terms) place = negated_if term.minus (pos (symbol_number symbols place term.by term.symbol)) +ℤ coefficient symbols terms place
 
 -- the constant of a sum: the numbers that stand alone with their signs, added up
 abbrev pub constant_of : List LinTerm → ℤ
 constant_of [] = pos 0
-constant_of (term ∷ terms) = signed term.minus (pos (lone_number term.by term.symbol)) +ℤ constant_of terms
+constant_of (term ∷ terms) = negated_if term.minus (pos (lone_number term.by term.symbol)) +ℤ constant_of terms
 
 -- the row that says that the left sum and a number are at most the right sum: the symbols stand on its left side, and the
 -- constants on its right side

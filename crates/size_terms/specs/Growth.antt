@@ -3,10 +3,10 @@ use Rattle.std.specs.Prelude.{◌≡◌, ℕ, ◌+◌, ◌*◌, ◌*ℤ◌, ◌�
 use Rattle.elastic_ast.specs.declared.declarations.LinTerm.{LinTerm}
 use Rattle.elastic_ast.specs.declared.declarations.UtilTerm.{UtilTerm}
 use Rattle.elastic_ast.specs.Tree.{Name}
-use Rattle.elastic_ast.specs.Sizes.SizeSums.{size_of, signed, term_value, sum_value, util_value}
+use Rattle.elastic_ast.specs.Sizes.SizeSums.{size_of, negated_if, term_value, sum_value, util_value}
 use Rattle.elastic_ast.specs.Typing.LanguageLimits.{most_number}
 use Rattle.size_terms.specs.declared.sums.Sum.{Sum}
-use Rattle.size_terms.specs.Rows.{dot, weight}
+use Rattle.size_terms.specs.Rows.{dot, coefficient_weight}
 
 -- what a sum is worth at these sizes
 abbrev pub sum_worth : Sum → List ℕ → ℤ
@@ -14,7 +14,7 @@ sum_worth sum sizes = dot sum.by.items sizes +ℤ sum.constant
 
 -- the absolute values of its coefficients and its constant, added up
 abbrev pub bulk : Sum → ℕ
-bulk sum = weight sum.by.items + unsigned_abs sum.constant
+bulk sum = coefficient_weight sum.by.items + unsigned_abs sum.constant
 
 -- a sum has a value more than before, at all sizes, for the same symbols, and isn't much larger
 pub record Grows (old new : Sum) (value : List ℕ → ℤ) (most : ℕ) : Type 0 where
@@ -31,12 +31,12 @@ GrowsBySymbol symbols old new name number = Grows old new (λ sizes. pos (size_o
 
 -- by a term, or less by it
 abbrev pub GrowsByTerm : List Name → Sum → Sum → Bool → LinTerm → Type 0
-GrowsByTerm symbols old new minus term = Grows old new (λ sizes. signed minus (term_value symbols sizes term)) most_number
+GrowsByTerm symbols old new minus term = Grows old new (λ sizes. negated_if minus (term_value symbols sizes term)) most_number
 
 -- by terms, or less by them
 abbrev pub GrowsByTerms : List Name → Sum → Sum → Bool → List LinTerm → Type 0
 GrowsByTerms symbols old new minus terms =
-    Grows old new (λ sizes. signed minus (sum_value symbols sizes terms)) (most_number * length terms)
+    Grows old new (λ sizes. negated_if minus (sum_value symbols sizes terms)) (most_number * length terms)
 
 -- by a term of the utility
 abbrev pub GrowsByUtility : List Name → Sum → Sum → UtilTerm → Type 0

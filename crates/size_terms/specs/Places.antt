@@ -10,12 +10,12 @@ use Rattle.elastic_ast.specs.Typing.Scope.{same, or_else}
 abbrev pub place_of : List Name → Name → Option ℕ
 place_of symbols name = position_from (same name) 0 symbols
 
-abbrev pub entry_seen : Bor (List ℕ) × ℕ → Name × ℕ
-entry_seen entry = (entry.0.now, entry.1)
+abbrev pub place_entry : Bor (List ℕ) × ℕ → Name × ℕ
+place_entry entry = (entry.0.now, entry.1)
 
 -- the place that a table has for a name
 abbrev pub entered : List (Bor (List ℕ) × ℕ) → Name → Option ℕ
-entered entries name = lookup (same name) (map entry_seen entries)
+entered entries name = lookup (same name) (map place_entry entries)
 
 -- a table has the first place of each name
 abbrev pub HasPlaces : List Name → List (Bor (List ℕ) × ℕ) → Type 0

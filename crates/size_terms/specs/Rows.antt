@@ -27,14 +27,14 @@ is_whole (pos by) = true
 is_whole (negsuc by) = false
 
 -- the absolute values of the coefficients, added up
-abbrev pub weight : List ℤ → ℕ
-weight [] = 0
-weight (by ∷ rest) = unsigned_abs by + weight rest
+abbrev pub coefficient_weight : List ℤ → ℕ
+coefficient_weight [] = 0
+coefficient_weight (by ∷ rest) = unsigned_abs by + coefficient_weight rest
 
 -- a sum over this many symbols that no size of 64 bits can bring out of 128 bits
 pub record IsShort (symbols : ℕ) (by : List ℤ) (constant : ℤ) : Type 0 where
   pub dense : length by ≡ symbols
-  pub small : weight by ≤ most_bulk
+  pub small : coefficient_weight by ≤ most_bulk
   pub near : unsigned_abs constant ≤ most_right_side
 
 -- the terms have one coefficient a symbol, and none that is large

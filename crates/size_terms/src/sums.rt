@@ -2,8 +2,8 @@
 
 ghost use Rattle.std.specs.Prelude.{◌≡◌, ◌≤◌, ◌<◌, ◌+◌, ◌*◌, ◌^◌, true, pos, neg_ℤ, unsigned_abs, length, map, IfOk};
 ghost use Rattle.std.specs.List.{list_all};
-ghost use Rattle.size_terms.specs.Rows.{weight};
-ghost use Rattle.elastic_ast.specs.Sizes.SizeSums.{signed};
+ghost use Rattle.size_terms.specs.Rows.{coefficient_weight};
+ghost use Rattle.elastic_ast.specs.Sizes.SizeSums.{negated_if};
 ghost use Rattle.size_terms.specs.Growth.{Grows, IsZero, Negates, bulk, is_near, GrowsBySymbol, GrowsByTerm, GrowsByTerms};
 ghost use Rattle.size_terms.specs.SumLimits.{most_bulk};
 ghost use Rattle.elastic_ast.specs.Typing.LanguageLimits.{most_terms};
@@ -22,7 +22,7 @@ pub struct Sum {
 
 /// A number under two signs.
 fn signed_number(number: u64, first: bool, second: bool) -> i128
-    ensures { result ≡ signed first (signed second (pos number)) }
+    ensures { result ≡ negated_if first (negated_if second (pos number)) }
 {
     if first == second {
         i128::from(number)
@@ -98,7 +98,7 @@ pub fn negated(alloc: Global, sum: &Sum) -> Result<Sum, AllocError>
 }
 
 fn negated_numbers(alloc: Global, numbers: &[i128]) -> Result<Vec<i128>, AllocError>
-    requires { weight numbers.now ≤ most_bulk }
+    requires { coefficient_weight numbers.now ≤ most_bulk }
     ensures { IfOk result (λ other. other.items ≡ map neg_ℤ numbers.now) }
 {
     let mut other = Vec::new(alloc);

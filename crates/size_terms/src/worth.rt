@@ -1,7 +1,7 @@
 //! What rows and terms are worth at given sizes.
 
 ghost use Rattle.std.specs.Prelude.{◌≡◌, ◌≤◌, ◌*◌, ◌^◌, ◌↔◌, IsTrue, length, unsigned_abs, pos, ◌*ℤ◌};
-ghost use Rattle.size_terms.specs.Rows.{dot, weight, worth, IsShort, RowHolds, RowsHold, AreShort};
+ghost use Rattle.size_terms.specs.Rows.{dot, coefficient_weight, worth, IsShort, RowHolds, RowsHold, AreShort};
 ghost use Rattle.size_terms.specs.SumLimits.{most_bulk};
 
 use elastic_ast::{Linear, Sizes, Terms};
@@ -17,9 +17,9 @@ fn product(size: u64, by: i128) -> i128
 /// Each coefficient times the size of its symbol, added up.
 fn dot_of(by: &[i128], sizes: &[u64]) -> i128
     requires dense { length by.now ≡ length sizes.now }
-    requires small { weight by.now ≤ most_bulk }
+    requires small { coefficient_weight by.now ≤ most_bulk }
     ensures value { result ≡ dot by.now sizes.now }
-    ensures most { unsigned_abs result ≤ weight by.now * 2 ^ 64 }
+    ensures most { unsigned_abs result ≤ coefficient_weight by.now * 2 ^ 64 }
 {
     let mut sum = 0i128;
     for i in 0..by.len() {

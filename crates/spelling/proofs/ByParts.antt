@@ -1,5 +1,5 @@
 -- What is read by its parts: between brackets, and one by one up to a sign.
-use Rattle.std.proofs.Common.{◌≡◌, ℕ, ◌+◌, ◌≤◌, true, List, [], ◌∷◌, ◌++◌, Result, Ok, Err, refl, ap, sym, subst, arith, map}
+use Rattle.std.proofs.Common.{◌≡◌, ℕ, ◌+◌, ◌≤◌, true, List, [], ◌∷◌, ◌++◌, Result, Ok, Err, refl, ap, sym, subst, ◌∙◌, arith, map}
 use Rattle.std.proofs.lemmas.List.{map-append}
 use denote.Ref.{MutBor}
 use Rattle.spelling.specs.Words.{Word}
@@ -7,16 +7,17 @@ use Rattle.spelling.specs.Grammar.{Grammar, ◌⨟◌, One, Begins, IsSign, Sign
 use Rattle.spelling.specs.Brackets.{is_opening}
 use Rattle.spelling.specs.Bounds.{IfTooDeep, Opens, OpensNext, Stops}
 use Rattle.spelling.specs.Reading.{ahead, Takes, MayTake, WantsOr}
-use Rattle.std.specs.Prelude.{IfOk}
-use Rattle.std.specs.Result.{IsErrAnd}
+use Rattle.std.specs.Prelude.{IfOk, MatchResult}
+use Rattle.std.specs.Result.{IsErrAnd, IsOkAnd}
 use Rattle.spelling.specs.declared.error.SyntaxError.{SyntaxError}
 use Rattle.spelling.specs.declared.reader.Reader.{Reader}
 use Rattle.spelling.proofs.Taking.{each_more, may, may_empty, takes_both, takes_bracketed}
 use Rattle.spelling.proofs.Only.{after, after_one, alone, begins, same_end, wants, wants_one}
 use Rattle.spelling.proofs.Limits.{answer_reading, opens_or, or_as, past_opening, want_or}
 use Rattle.spelling.proofs.Bounds.{deep_as, forbidden, if_deep, even, none_open, one_open, refused_deep, stop_open, stop_opens, want_deep}
-use Rattle.spelling.specs.Readers.{Reads, ReadsFew, ReadsFewUpTo, ReadsMade, ReadsWithin, ReadsUpTo, InBrackets, Unopened, Broken, Unclosed, Closed, ThenSign, NoPart, NoSign, Both, OneByOne, NoneYet, OneMore, Until, Ended, Refused, Wanting}
+use Rattle.spelling.specs.Readers.{Reads, ReadsFew, ReadsFewUpTo, ReadsMade, ReadsWithin, ReadsWithinBefore, ReadsUpTo, InBrackets, Unopened, Broken, Unclosed, Closed, ThenSign, NoPart, NoSign, Both, OneByOne, NoneYet, OneMore, Until, Ended, Refused, Wanting}
 use Rattle.spelling.proofs.Balance.{Stays, stays_each}
+use Rattle.spelling.proofs.Refusals.{of_refusal}
 use Rattle.spelling.proofs.Whole.{Left, left_all, left_more, none_left, one_left}
 
 pub taken_may : {A B : Type 0} (Of : B → Grammar) (seen : A → B) (a b : List Word) (r : Result A SyntaxError) → IfOk r (λ y. Takes (Of (seen y)) a b) → IfOk r (λ y. MayTake (Of (seen y)) a b)
@@ -82,15 +83,15 @@ around_part is reads = around is (λ inner old new r call. within_up_to (reads i
 pub around_words : {A B : Type 0} {opening closing : List ℕ} {depth : ℕ} {Of : B → Grammar} {seen : A → B} {Calls : MutBor Reader → ℕ → Result A SyntaxError → MutBor Reader → Type 0} {before after : Reader} {result : Result A SyntaxError} → is_opening opening ≡ true → ((inner : ℕ) (old new : MutBor Reader) (r : Result A SyntaxError) → Calls old inner r new → Reads Of seen old.now new.now r) → InBrackets opening closing depth Calls before after result → ReadsWithin (λ most x. Bracketed opening closing most (λ _. Of x)) seen depth before after result
 around_words is reads = around_part is (λ inner old new r call. words_within (reads inner old new r call))
 
--- the end of a `?` in it
+-- the ends of a `?` in what is read by its parts
 pub refused_brackets : {A : Type 0} {opening closing : List ℕ} {depth : ℕ} {Calls : MutBor Reader → ℕ → Result A SyntaxError → MutBor Reader → Type 0} {before after : Reader} {e : SyntaxError} {result : Result A SyntaxError} → IsErrAnd result (λ d. d ≡ e) → InBrackets opening closing depth Calls before after (Err e) → InBrackets opening closing depth Calls before after result
-refused_brackets {result = Ok y} is b = absurd is
-refused_brackets {opening = opening} {closing = closing} {depth = depth} {Calls = Calls} {before = before} {after = after} {result = Err d} is b = subst (λ e. InBrackets opening closing depth Calls before after (Err e)) (sym is) b
+refused_brackets {opening = opening} {closing = closing} {depth = depth} {Calls = Calls} {before = before} {after = after} = of_refusal (λ r. InBrackets opening closing depth Calls before after r)
 
--- the end of a `?` in a list
 pub refused_until : {A : Type 0} {Stop : Grammar} {Calls : MutBor Reader → Result A SyntaxError → MutBor Reader → Type 0} {before after : Reader} {e : SyntaxError} {result : Result (List A) SyntaxError} → IsErrAnd result (λ d. d ≡ e) → Until Stop Calls before after (Err e) → Until Stop Calls before after result
-refused_until {result = Ok y} is b = absurd is
-refused_until {Stop = Stop} {Calls = Calls} {before = before} {after = after} {result = Err d} is b = subst (λ e. Until Stop Calls before after (Err e)) (sym is) b
+refused_until {Stop = Stop} {Calls = Calls} {before = before} {after = after} = of_refusal (λ r. Until Stop Calls before after r)
+
+pub refused_then : {A : Type 0} {sign : List ℕ} {Calls : MutBor Reader → Result A SyntaxError → MutBor Reader → Type 0} {before after : Reader} {e : SyntaxError} {result : Result A SyntaxError} → IsErrAnd result (λ d. d ≡ e) → ThenSign sign Calls before after (Err e) → ThenSign sign Calls before after result
+refused_then {sign = sign} {Calls = Calls} {before = before} {after = after} = of_refusal (λ r. ThenSign sign Calls before after r)
 
 -- no part begins where it stops
 pub record NoneAt {B : Type 0} (Stop : Grammar) (Of : ℕ → B → Grammar) : Type 0 where
@@ -150,13 +151,8 @@ up_to_seen {seen = seen} = one_by_one seen (map seen) refl (λ ys y. map-append 
 
 -- the end of a `?`
 pub refused_within : {A B : Type 0} {Of : ℕ → B → Grammar} {seen : A → B} {depth : ℕ} {before after : Reader} {result : Result A SyntaxError} (e : SyntaxError) → IsErrAnd result (λ d. d ≡ e) → ((more : ℕ) (x : B) (rest : List Word) → MayTake (Of more x) (ahead before) rest → WantsOr (more ≤ depth) e) → IfTooDeep (Stops (Opens depth) OpensNext (ahead before) (ahead after)) e → ReadsWithin Of seen depth before after result
-refused_within {result = Ok y} e is want deep = absurd is
-refused_within {seen = seen} {depth = depth} {before = before} {after = end} {result = Err d} e is want deep =
-    record {
-      taken = tt;
-      only = λ more x rest m. subst (WantsOr (more ≤ depth)) (sym is) (want more x rest m);
-      deep = subst (IfTooDeep (Stops (Opens depth) OpensNext (ahead before) (ahead end))) (sym is) deep;
-    }
+refused_within {Of = Of} {seen = seen} {depth = depth} {before = before} {after = end} e is want deep =
+    of_refusal (λ r. ReadsWithin Of seen depth before end r) is record { taken = tt; only = want; deep = deep }
 
 -- where a part refuses behind words that leave no bracket open
 pub part_deep : {Front : Grammar} {depth : ℕ} {a b : List Word} (c : List Word) (e : SyntaxError) → Stays depth Front → MayTake Front a b → IfTooDeep (Stops (Opens depth) OpensNext b c) e → IfTooDeep (Stops (Opens depth) OpensNext a c) e
@@ -178,13 +174,8 @@ behind_word {depth = depth} {end = end} {result = Err e} mid stays word r =
     }
 
 pub refused_made : {A B I : Type 0} {Of : ℕ → B → Grammar} {seen : A → B} {made : I → B} {depth : ℕ} {before after : Reader} {result : Result A SyntaxError} (e : SyntaxError) → IsErrAnd result (λ d. d ≡ e) → ((more : ℕ) (of : I) (rest : List Word) → MayTake (Of more (made of)) (ahead before) rest → WantsOr (more ≤ depth) e) → IfTooDeep (Stops (Opens depth) OpensNext (ahead before) (ahead after)) e → ReadsMade Of seen made depth before after result
-refused_made {result = Ok y} e is want deep = absurd is
-refused_made {depth = depth} {before = before} {after = end} {result = Err d} e is want deep =
-    record {
-      taken = tt;
-      only = λ more of rest m. subst (WantsOr (more ≤ depth)) (sym is) (want more of rest m);
-      deep = subst (IfTooDeep (Stops (Opens depth) OpensNext (ahead before) (ahead end))) (sym is) deep;
-    }
+refused_made {Of = Of} {seen = seen} {made = made} {depth = depth} {before = before} {after = end} e is want deep =
+    of_refusal (λ r. ReadsMade Of seen made depth before end r) is record { taken = tt; only = want; deep = deep }
 
 -- how a bound that is passed in brackets is passed in the whole, and a bracket too many is one that is passed
 pub record PassesIn (opening : List ℕ) (depth : ℕ) (Whole : List Word → List Word → Type 0) (Inside : ℕ → List Word → List Word → Type 0) : Type 0 where
@@ -284,34 +275,79 @@ few_up_to {Stop = Stop} {depth = depth} {Of = Of} {seen = seen} Few {All = All} 
 few_up_to Few Inside each begins_none stay grows reads (Wanting e want) =
     record { taken = tt; few = tt; only = λ more all rest m ends. want_or _ e want; deep = want_deep _ e want }
 
--- the end of a `?` before a sign
-pub refused_then : {A : Type 0} {sign : List ℕ} {Calls : MutBor Reader → Result A SyntaxError → MutBor Reader → Type 0} {before after : Reader} {e : SyntaxError} {result : Result A SyntaxError} → IsErrAnd result (λ d. d ≡ e) → ThenSign sign Calls before after (Err e) → ThenSign sign Calls before after result
-refused_then {result = Ok y} is b = absurd is
-refused_then {sign = sign} {Calls = Calls} {before = before} {after = end} {result = Err d} is b = subst (λ e. ThenSign sign Calls before end (Err e)) (sym is) b
-
--- a part and a sign behind it
-pub with_sign : {A B : Type 0} {sign : List ℕ} {depth : ℕ} {Of : ℕ → B → Grammar} {seen : A → B} {Calls : MutBor Reader → Result A SyntaxError → MutBor Reader → Type 0} {before after : Reader} {result : Result A SyntaxError} → ((old new : MutBor Reader) (r : Result A SyntaxError) → Calls old r new → ReadsWithin Of seen depth old.now new.now r) → ThenSign sign Calls before after result → ReadsWithin (λ most x. Of most x ⨟ Sign sign) seen depth before after result
-with_sign {sign = sign} {depth = depth} {Of = Of} {seen = seen} {before = before} {after = end} reads (NoPart old new e start call same) =
+-- a part, which ends where this sign stands, and the sign behind it
+pub with_sign_before : {Follows : Grammar} {A B : Type 0} {sign : List ℕ} {depth : ℕ} {Of : ℕ → B → Grammar} {seen : A → B} {Calls : MutBor Reader → Result A SyntaxError → MutBor Reader → Type 0} {before after : Reader} {result : Result A SyntaxError} → ((ws : List Word) → Begins (IsSign sign) ws → Follows ws) → ((old new : MutBor Reader) (r : Result A SyntaxError) → Calls old r new → ReadsWithinBefore Follows Of seen depth old.now new.now r) → ThenSign sign Calls before after result → ReadsWithin (λ most x. Of most x ⨟ Sign sign) seen depth before after result
+with_sign_before {sign = sign} {depth = depth} {Of = Of} {seen = seen} {before = before} {after = end} ends reads (NoPart old new e start call same) =
     let r = reads old new (Err e) call in
     subst (λ at. ReadsWithin (λ most x. Of most x ⨟ Sign sign) seen depth at end (Err e)) start
     record {
       taken = tt;
-      only = λ more x rest m. wants m (λ b f s. r.only more x b f);
+      only = λ more x rest m. wants m (λ b f s. r.only more x b f (ends b (begins s)));
       deep = if_deep e (λ p. subst (λ at. Stops (Opens depth) OpensNext (ahead old.now) (ahead at)) (sym same) p) r.deep;
     }
-with_sign {sign = sign} {depth = depth} {Of = Of} {seen = seen} {before = before} {after = end} reads (NoSign old new y e start call refused same) =
+with_sign_before {sign = sign} {depth = depth} {Of = Of} {seen = seen} {before = before} {after = end} ends reads (NoSign old new y e start call refused same) =
     let r = reads old new (Ok y) call in
     subst (λ at. ReadsWithin (λ most x. Of most x ⨟ Sign sign) seen depth at end (Err e)) start
     record {
       taken = tt;
-      only = λ more x rest m. let m2 = after m (λ b f s. r.only more x b f) in want_or _ e (wants_one _ e (alone m2.1) refused);
+      only = λ more x rest m. let m2 = after m (λ b f s. r.only more x b f (ends b (begins s))) in want_or _ e (wants_one _ e (alone m2.1) refused);
       deep = refused_deep _ _ _ e refused;
     }
-with_sign {sign = sign} {depth = depth} {Of = Of} {seen = seen} {before = before} {after = end} reads (Both old new y start call closed) =
+with_sign_before {sign = sign} {depth = depth} {Of = Of} {seen = seen} {before = before} {after = end} ends reads (Both old new y start call closed) =
     let r = reads old new (Ok y) call in
     subst (λ at. ReadsWithin (λ most x. Of most x ⨟ Sign sign) seen depth at end (Ok y)) start
     record {
       taken = takes_both r.taken closed;
-      only = λ more x rest m. let m2 = after m (λ b f s. r.only more x b f) in (m2.0, same_end m2.1 closed);
+      only = λ more x rest m. let m2 = after m (λ b f s. r.only more x b f (ends b (begins s))) in (m2.0, same_end m2.1 closed);
       deep = tt;
     }
+
+-- any other part
+pub with_sign : {A B : Type 0} {sign : List ℕ} {depth : ℕ} {Of : ℕ → B → Grammar} {seen : A → B} {Calls : MutBor Reader → Result A SyntaxError → MutBor Reader → Type 0} {before after : Reader} {result : Result A SyntaxError} → ((old new : MutBor Reader) (r : Result A SyntaxError) → Calls old r new → ReadsWithin Of seen depth old.now new.now r) → ThenSign sign Calls before after result → ReadsWithin (λ most x. Of most x ⨟ Sign sign) seen depth before after result
+with_sign reads =
+    with_sign_before {Follows = λ _. Unit {0}} (λ ws at. tt)
+    (λ old new r call. let h = reads old new r call in record { taken = h.taken; only = λ more x rest m follows. h.only more x rest m; deep = h.deep })
+
+-- A thing of two parts, read one after the other: the first is refused, or the second, or both are read.
+abbrev pub TwoParts : {B I J : Type 0} → (ℕ → B → Grammar) → (ℕ → I → Grammar) → (ℕ → J → Grammar) → (B → I) → (B → J) → Type 0
+TwoParts {B = B} Of First Then one other = (more : ℕ) (x : B) (a c : List Word) → MayTake (Of more x) a c → MayTake (First more (one x) ⨟ Then more (other x)) a c
+
+pub no_first : {A B C I J : Type 0} {Of : ℕ → B → Grammar} {First : ℕ → I → Grammar} (Then : ℕ → J → Grammar) (one : B → I) (other : B → J) {seen : A → B} {first_seen : C → I} {depth : ℕ} {before after : Reader} {result : Result A SyntaxError} (e : SyntaxError) → TwoParts Of First Then one other → IsErrAnd result (λ d. d ≡ e) → ReadsWithin First first_seen depth before after (Err e) → ReadsWithin Of seen depth before after result
+no_first Then one other e parts is r = refused_within e is (λ more x rest m. wants (parts more x _ _ m) (λ b f s. r.only more (one x) b f)) r.deep
+
+pub no_second : {A B C D I J : Type 0} {Of : ℕ → B → Grammar} {First : ℕ → I → Grammar} {Then : ℕ → J → Grammar} (one : B → I) (other : B → J) {seen : A → B} {first_seen : C → I} {then_seen : D → J} {depth : ℕ} {before after : Reader} {result : Result A SyntaxError} (mid : Reader) (y : C) (e : SyntaxError) → TwoParts Of First Then one other → IsErrAnd result (λ d. d ≡ e) → Stays depth (First depth (first_seen y)) → ReadsWithin First first_seen depth before mid (Ok y) → ReadsWithin Then then_seen depth mid after (Err e) → ReadsWithin Of seen depth before after result
+no_second one other {after = end} mid y e parts is stays r q =
+    refused_within e is (λ more x rest m. let t = after (parts more x _ _ m) (λ b f s. r.only more (one x) b f) in q.only more (other x) rest t.1) (part_deep (ahead end) e stays (may r.taken) q.deep)
+
+pub both_parts : {A B C D I J : Type 0} {Of : ℕ → B → Grammar} {First : ℕ → I → Grammar} {Then : ℕ → J → Grammar} (one : B → I) (other : B → J) {seen : A → B} {first_seen : C → I} {then_seen : D → J} {depth : ℕ} {before after : Reader} (mid : Reader) (y : C) (z : D) (w : A) → TwoParts Of First Then one other → (Takes (First depth (first_seen y) ⨟ Then depth (then_seen z)) (ahead before) (ahead after) → Takes (Of depth (seen w)) (ahead before) (ahead after)) → ((x : B) → first_seen y ≡ one x → then_seen z ≡ other x → seen w ≡ x) → ReadsWithin First first_seen depth before mid (Ok y) → ReadsWithin Then then_seen depth mid after (Ok z) → ReadsWithin Of seen depth before after (Ok w)
+both_parts one other mid y z w parts joined same r q =
+    record {
+      taken = joined (takes_both r.taken q.taken);
+      only = λ more x rest m.
+          let t = after (parts more x _ _ m) (λ b f s. r.only more (one x) b f) in
+          let u = q.only more (other x) rest t.1 in
+          (same x t.0 u.0, u.1);
+      deep = tt;
+    }
+
+-- a reader with bounds that stands for itself whatever follows
+pub few_up : {A B : Type 0} {Follows : Grammar} {Of : ℕ → B → Grammar} {seen : A → B} {Few : B → Type 0} {Passed : List Word → List Word → Type 0} {depth : ℕ} {before after : Reader} {result : Result A SyntaxError} → ReadsFew Of seen Few Passed depth before after result → ReadsFewUpTo Follows Of seen Few Passed depth before after result
+few_up {Of = Of} {seen = seen} {depth = depth} {before = before} {after = end} {result = result} r =
+    record { taken = taken_may (Of depth) seen (ahead before) (ahead end) result r.taken; few = r.few; only = λ more x rest m follows. r.only more x rest m; deep = r.deep }
+
+-- with bounds, behind a word that is always the same
+pub behind_few : {A B : Type 0} {F : Word → Type 0} {Of : ℕ → B → Grammar} {seen : A → B} {Few : B → Type 0} {Passed Whole : List Word → List Word → Type 0} {depth : ℕ} {before end : Reader} {result : Result A SyntaxError} (mid : Reader) → ((c : List Word) → MayTake (One F) (ahead before) (ahead mid) → Passed (ahead mid) c → Whole (ahead before) c) → Takes (One F) (ahead before) (ahead mid) → ReadsFew Of seen Few Passed depth mid end result → ReadsFew (λ most x. One F ⨟ Of most x) seen Few Whole depth before end result
+behind_few {result = Ok y} mid grows word r = record { taken = takes_both word r.taken; few = r.few; only = λ more x rest m. r.only more x rest (after_one m word); deep = tt }
+behind_few {end = end} {result = Err e} mid grows word r = record { taken = tt; few = tt; only = λ more x rest m. r.only more x rest (after_one m word); deep = if_deep e (grows (ahead end) (may word)) r.deep }
+
+-- a thing that is made of what is read
+pub made_of : {A B C I : Type 0} {Of : ℕ → B → Grammar} {seen : A → B} {made : I → B} {part_seen : C → I} {Makes : C → A → Type 0} {depth : ℕ} {before after : Reader} {part : Result C SyntaxError} {result : Result A SyntaxError} → ((y : C) (z : A) → Makes y z → seen z ≡ made (part_seen y)) → MatchResult part (λ y. IsOkAnd result (Makes y)) (λ e. result ≡ Err e) → ReadsWithin (λ most i. Of most (made i)) part_seen depth before after part → ReadsMade Of seen made depth before after result
+made_of {Of = Of} {made = made} {depth = depth} {before = before} {after = end} {part = Ok y} {result = Ok z} makes is r =
+    record {
+      taken = subst (λ x. Takes (Of depth x) (ahead before) (ahead end)) (sym (makes y z is)) r.taken;
+      only = λ more i rest m. let t = r.only more i rest m in (makes y z is ∙ ap made t.0, t.1);
+      deep = tt;
+    }
+made_of {part = Ok y} {result = Err e} makes is r = absurd is
+made_of {Of = Of} {seen = seen} {made = made} {depth = depth} {before = before} {after = end} {part = Err e} makes is r =
+    subst (λ x. ReadsMade Of seen made depth before end x) (sym is) record { taken = tt; only = r.only; deep = r.deep }

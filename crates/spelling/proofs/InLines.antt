@@ -3,14 +3,16 @@ use Rattle.std.proofs.Common.{◌≡◌, ℕ, ◌≤◌, true, List, [], Result,
 use denote.Ref.{MutBor}
 use Rattle.std.specs.Prelude.{IfOk}
 use Rattle.spelling.specs.Words.{Word}
-use Rattle.spelling.specs.Grammar.{Grammar, Begins, Bracketed, IsSign, Sign}
+use Rattle.spelling.specs.Grammar.{Grammar, ◌⨟◌, Begins, Bracketed, IsSign, One, Sign}
 use Rattle.spelling.specs.Brackets.{is_opening}
 use Rattle.spelling.specs.Bounds.{IfTooDeep, Line, Opens, OpensNext, Stops}
-use Rattle.spelling.specs.Reading.{ahead, MayNotOpen, MayTake}
+use Rattle.spelling.specs.Reading.{ahead, MayNotOpen, MayTake, Takes}
 use Rattle.spelling.specs.declared.error.SyntaxError.{SyntaxError}
 use Rattle.spelling.specs.declared.reader.Reader.{Reader}
 use Rattle.spelling.specs.Readers.{InBrackets, Reads, ReadsBefore, ReadsFewUpTo, ReadsLine, ReadsUpTo, ReadsWithinBefore}
 use Rattle.spelling.proofs.Balance.{Stays}
+use Rattle.spelling.proofs.Only.{after_one}
+use Rattle.spelling.proofs.Taking.{may, takes_both}
 use Rattle.spelling.proofs.Bounds.{InLine, deep_as, forbidden, if_deep, in_line, line_none, line_open, line_opens, stop_as, stop_line}
 use Rattle.spelling.proofs.ByParts.{PassesIn, around_few, part_deep, taken_may}
 use Rattle.spelling.proofs.Limits.{answer_reading, reading_as}
@@ -76,3 +78,8 @@ stop_line_open depth text at {a = a} e is same refused =
     if_deep e
     (λ h. subst (Stops (Line depth) OpensNext a) (sym same) record { front = []; joined = refl; begun = subst (λ n. Line n []) (sym h.1) line_none; next = h.0 })
     (forbidden text is depth at a e refused)
+
+-- behind a word, within one statement
+pub behind_line : {A B : Type 0} {F : Word → Type 0} {Of : ℕ → B → Grammar} {seen : A → B} {depth : ℕ} {before end : Reader} {result : Result A SyntaxError} (mid : Reader) → Stays depth (One F) → InLine (One F) → Takes (One F) (ahead before) (ahead mid) → ReadsLine Of seen depth mid end result → ReadsLine (λ most x. One F ⨟ Of most x) seen depth before end result
+behind_line {result = Ok y} mid stays in_it word r = record { taken = takes_both word r.taken; only = λ more x rest m. r.only more x rest (after_one m word); deep = tt }
+behind_line {end = end} {result = Err e} mid stays in_it word r = record { taken = tt; only = λ more x rest m. r.only more x rest (after_one m word); deep = line_deep (ahead end) e stays in_it (may word) r.deep }

@@ -12,3 +12,5 @@ pub mod ByParts
 pub mod Series
 pub mod Refusals
 pub mod InLines
+pub mod WordsUpTo
+pub mod AllOf

@@ -45,6 +45,16 @@ regroup m =
     let t = split s.first in
     may_both t.first (may_both t.second s.second)
 
+-- and the first two before the third
+pub ungroup : {P Q R : Grammar} {a c : List Word} → MayTake (P ⨟ Q ⨟ R) a c → MayTake ((P ⨟ Q) ⨟ R) a c
+ungroup m =
+    let s = split m in
+    let t = split s.second in
+    may_both (may_both s.first t.first) t.second
+
+pub takes_regroup : {P Q R : Grammar} {a c : List Word} → Takes ((P ⨟ Q) ⨟ R) a c → Takes (P ⨟ Q ⨟ R) a c
+takes_regroup t = let m = regroup (may t) in record { front = m.front; joined = m.joined; spelled = m.spelled; fewer = t.fewer }
+
 -- alone is first with nothing after it
 pub alone : {P : Grammar} {a c : List Word} → MayTake P a c → MayTake (P ⨟ Empty) a c
 alone m = may_both m may_empty

@@ -62,7 +62,7 @@ read_so_far {sign = sign} Of seen all_seen before xs now one grows ends reads (O
           left_more n (grows ys x) t.0 t.1;
     }
 
-series : {A B : Type 0} {sign : List ℕ} {Part Series : Grammar} {Of : B → Grammar} (seen : A → B) (all_seen : List A → List B) {Calls : MutBor Reader → Result A SyntaxError → MutBor Reader → Type 0} {before after : Reader} {result : Result (List A) SyntaxError} → ((y : A) → all_seen (y ∷ []) ≡ seen y ∷ []) → ((ys : List A) (y : A) → all_seen (ys ++ y ∷ []) ≡ all_seen ys ++ seen y ∷ []) → SeriesEnds sign Part Series → ((old new : MutBor Reader) (r : Result A SyntaxError) → Calls old r new → ReadsBefore Part Of seen old.now new.now r) → InSeries sign Calls before after result → ReadsBefore Series (Separated (Sign sign) Of) all_seen before after result
+pub series : {A B : Type 0} {sign : List ℕ} {Part Series : Grammar} {Of : B → Grammar} (seen : A → B) (all_seen : List A → List B) {Calls : MutBor Reader → Result A SyntaxError → MutBor Reader → Type 0} {before after : Reader} {result : Result (List A) SyntaxError} → ((y : A) → all_seen (y ∷ []) ≡ seen y ∷ []) → ((ys : List A) (y : A) → all_seen (ys ++ y ∷ []) ≡ all_seen ys ++ seen y ∷ []) → SeriesEnds sign Part Series → ((old new : MutBor Reader) (r : Result A SyntaxError) → Calls old r new → ReadsBefore Part Of seen old.now new.now r) → InSeries sign Calls before after result → ReadsBefore Series (Separated (Sign sign) Of) all_seen before after result
 series {sign = sign} {Of = Of} seen all_seen {before = before} {after = end} one grows ends reads (Whole xs mid o at same) =
     let s = read_so_far Of seen all_seen before xs mid one grows ends reads o in
     record {

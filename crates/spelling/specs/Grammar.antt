@@ -17,25 +17,16 @@ abbrev pub Nothing : Grammar
 Nothing ws = ⊥
 
 abbrev pub is_sign : Kind → Bool
-is_sign (kind.Reserved code) = false
 is_sign (kind.Sign code) = true
-is_sign kind.Name = false
-is_sign (kind.Number width value) = false
-is_sign (kind.Include file) = false
+is_sign other = false
 
 abbrev pub is_reserved : Kind → Bool
 is_reserved (kind.Reserved code) = true
-is_reserved (kind.Sign code) = false
-is_reserved kind.Name = false
-is_reserved (kind.Number width value) = false
-is_reserved (kind.Include file) = false
+is_reserved other = false
 
 abbrev pub is_number : Kind → Bool
-is_number (kind.Reserved code) = false
-is_number (kind.Sign code) = false
-is_number kind.Name = false
 is_number (kind.Number width value) = true
-is_number (kind.Include file) = false
+is_number other = false
 
 -- one word with a property
 pub record One (IsThis : Word → Type 0) (ws : List Word) : Type 0 where

@@ -4,10 +4,14 @@ use denote.Ref.{MutBor}
 use Rattle.p4_lexer.specs.declared.token.Kind.TheVariants as kind
 use Rattle.p4_lexer.specs.declared.token.Token.{Token}
 use Rattle.spelling.specs.Words.{Word, word_of, words}
-use Rattle.spelling.specs.Grammar.{Grammar, Begins, Bracketed, Each, IsNum, IsSign, Sign}
-use Rattle.spelling.specs.Reading.{ahead, place, Takes, MayTake, MayRefuse, MayNotOpen, IsWant, IsAnswer, IsReading}
+use Rattle.spelling.specs.Grammar.{Grammar, Begins, Bracketed, Each, IsNum, IsReserved, IsSign, Sign}
+use Rattle.spelling.specs.Reading.{ahead, token_place, Takes, MayTake, MayRefuse, MayNotOpen, IsWant, IsAnswer, IsReading}
 use Rattle.spelling.specs.Bounds.{IfTooDeep, IsNeverDeep, Line, Opens, OpensNext, Stops}
+use Rattle.spelling.specs.declared.brackets.Brackets.{Brackets}
+use Rattle.spelling.specs.declared.brackets.Brackets.TheVariants as brackets
 use Rattle.spelling.specs.declared.error.SyntaxError.{SyntaxError}
+use Rattle.spelling.specs.declared.parts.End.{End}
+use Rattle.spelling.specs.declared.parts.End.TheVariants as end
 use Rattle.spelling.specs.declared.reader.Reader.{Reader}
 
 -- a grammar spells what stands between two places of a reader
@@ -16,17 +20,17 @@ TakesOver Of before after = Takes Of (ahead before) (ahead after)
 
 -- a reader of a word refuses where another stands
 abbrev pub RefusesWord : {A : Type 0} → (Word → Type 0) → Reader → Result A SyntaxError → Type 0
-RefusesWord IsThis before result = IfErr result (MayRefuse (Begins IsThis (ahead before)) (place before))
+RefusesWord IsThis before result = IfErr result (MayRefuse (Begins IsThis (ahead before)) (token_place before))
 
 abbrev pub RefusesNumber : {A : Type 0} → ℕ → Reader → Result A SyntaxError → Type 0
-RefusesNumber most before result = IfErr result (MayRefuse ((value : ℕ) × (value ≤ most) × Begins (IsNum value) (ahead before)) (place before))
+RefusesNumber most before result = IfErr result (MayRefuse ((value : ℕ) × (value ≤ most) × Begins (IsNum value) (ahead before)) (token_place before))
 
 abbrev pub RefusesInclude : {A : Type 0} → Reader → Result A SyntaxError → Type 0
-RefusesInclude before result = IfErr result (MayRefuse ((file : ℕ) × Begins (λ word. word.kind ≡ kind.Include file) (ahead before)) (place before))
+RefusesInclude before result = IfErr result (MayRefuse ((file : ℕ) × Begins (λ word. word.kind ≡ kind.Include file) (ahead before)) (token_place before))
 
 -- and one of an opening bracket where none may be open
 abbrev pub RefusesBracket : {A : Type 0} → List ℕ → ℕ → Reader → Result A SyntaxError → Type 0
-RefusesBracket bracket depth before result = IfErr result (MayNotOpen (Begins (IsSign bracket) (ahead before)) depth (place before))
+RefusesBracket bracket depth before result = IfErr result (MayNotOpen (Begins (IsSign bracket) (ahead before)) depth (token_place before))
 
 -- no word is ahead, or the token that stands next is the first
 abbrev pub AtEnd : Reader → Type 0
@@ -69,12 +73,38 @@ itself x = x
 abbrev pub ClosesNext : Grammar
 ClosesNext = Begins (IsSign (codes "}"))
 
+-- the closing bracket of a list stands first
+abbrev pub EndsRound : Grammar
+EndsRound = Begins (IsSign (codes ")"))
+
+-- a word that is this end of a list of parts
+abbrev pub IsEndWord : End → Word → Type 0
+IsEndWord (end.Sign sign) = IsSign sign.now
+IsEndWord (end.Reserved text) = IsReserved text.now
+
+-- A reader of perhaps no words, which are followed by others that begin so; it opens no bracket that a depth could forbid.
+pub record ReadsWordsUpTo {A B : Type 0} (Follows : Grammar) (Of : B → Grammar) (seen : A → B) (before after : Reader) (result : Result A SyntaxError) : Type 0 where
+  pub taken : IfOk result (λ read. MayTake (Of (seen read)) (ahead before) (ahead after))
+  pub only : (x : B) (rest : List Word) → MayTake (Of x) (ahead before) rest → Follows rest → IsAnswer seen x rest (ahead after) result
+  pub shallow : IfErr result IsNeverDeep
+
 -- What comes of reading a part between brackets: the opening sign is refused, or the part, or the closing sign, or each is read.
 pub data InBrackets {A : Type 0} (opening closing : List ℕ) (depth : ℕ) (Calls : MutBor Reader → ℕ → Result A SyntaxError → MutBor Reader → Type 0) (before after : Reader) : Result A SyntaxError → Type 0 where
-  Unopened : (e : SyntaxError) → MayNotOpen (Begins (IsSign opening) (ahead before)) depth (place before) e → after ≡ before → InBrackets opening closing depth Calls before after (Err e)
+  Unopened : (e : SyntaxError) → MayNotOpen (Begins (IsSign opening) (ahead before)) depth (token_place before) e → after ≡ before → InBrackets opening closing depth Calls before after (Err e)
   Broken : (inner : ℕ) (old new : MutBor Reader) (e : SyntaxError) → depth ≡ inner + 1 → Takes (Sign opening) (ahead before) (ahead old.now) → Calls old inner (Err e) new → after ≡ new.now → InBrackets opening closing depth Calls before after (Err e)
-  Unclosed : (inner : ℕ) (old new : MutBor Reader) (y : A) (e : SyntaxError) → depth ≡ inner + 1 → Takes (Sign opening) (ahead before) (ahead old.now) → Calls old inner (Ok y) new → MayRefuse (Begins (IsSign closing) (ahead new.now)) (place new.now) e → after ≡ new.now → InBrackets opening closing depth Calls before after (Err e)
+  Unclosed : (inner : ℕ) (old new : MutBor Reader) (y : A) (e : SyntaxError) → depth ≡ inner + 1 → Takes (Sign opening) (ahead before) (ahead old.now) → Calls old inner (Ok y) new → MayRefuse (Begins (IsSign closing) (ahead new.now)) (token_place new.now) e → after ≡ new.now → InBrackets opening closing depth Calls before after (Err e)
   Closed : (inner : ℕ) (old new : MutBor Reader) (y : A) → depth ≡ inner + 1 → Takes (Sign opening) (ahead before) (ahead old.now) → Calls old inner (Ok y) new → Takes (Sign closing) (ahead new.now) (ahead after) → InBrackets opening closing depth Calls before after (Ok y)
+
+-- how many brackets may be open from these on, and what comes of reading a part between them
+abbrev pub depth_of : Brackets → ℕ
+depth_of (brackets.Round depth) = depth
+depth_of (brackets.Square depth) = depth
+depth_of (brackets.Curly depth) = depth
+
+abbrev pub Enclosed : {A : Type 0} → Brackets → (MutBor Reader → ℕ → Result A SyntaxError → MutBor Reader → Type 0) → Reader → Reader → Result A SyntaxError → Type 0
+Enclosed (brackets.Round depth) = InBrackets (codes "(") (codes ")") depth
+Enclosed (brackets.Square depth) = InBrackets (codes "[") (codes "]") depth
+Enclosed (brackets.Curly depth) = InBrackets (codes "{") (codes "}") depth
 
 -- each call that reads a thing takes a word
 pub record GoesOn {A : Type 0} (Calls : MutBor Reader → Result A SyntaxError → MutBor Reader → Type 0) : Type 0 where
@@ -117,7 +147,14 @@ pub record ReadsFew {A B : Type 0} (Of : ℕ → B → Grammar) (seen : A → B)
   pub only : (more : ℕ) (x : B) (rest : List Word) → MayTake (Of more x) (ahead before) rest → IsReading ((more ≤ depth) × Few x) seen x rest (ahead after) result
   pub deep : IfErr result (IfTooDeep (Passed (ahead before) (ahead after)))
 
--- The same of perhaps no words, where what follows them is so.
+-- The same of a thing that is made of some others.
+pub record ReadsFewMade {A B I : Type 0} (Of : ℕ → B → Grammar) (seen : A → B) (made : I → B) (Few : B → Type 0) (Passed : List Word → List Word → Type 0) (depth : ℕ) (before after : Reader) (result : Result A SyntaxError) : Type 0 where
+  pub taken : IfOk result (λ read. Takes (Of depth (seen read)) (ahead before) (ahead after))
+  pub few : IfOk result (λ read. Few (seen read))
+  pub only : (more : ℕ) (of : I) (rest : List Word) → MayTake (Of more (made of)) (ahead before) rest → IsReading ((more ≤ depth) × Few (made of)) seen (made of) rest (ahead after) result
+  pub deep : IfErr result (IfTooDeep (Passed (ahead before) (ahead after)))
+
+-- A reader with bounds of perhaps no words, where what follows them is so.
 pub record ReadsFewUpTo {A B : Type 0} (Follows : Grammar) (Of : ℕ → B → Grammar) (seen : A → B) (Few : B → Type 0) (Passed : List Word → List Word → Type 0) (depth : ℕ) (before after : Reader) (result : Result A SyntaxError) : Type 0 where
   pub taken : IfOk result (λ read. MayTake (Of depth (seen read)) (ahead before) (ahead after))
   pub few : IfOk result (λ read. Few (seen read))
@@ -127,7 +164,7 @@ pub record ReadsFewUpTo {A B : Type 0} (Follows : Grammar) (Of : ℕ → B → G
 -- What comes of reading a part and a sign behind it: the part is refused, or the sign, or both are read.
 pub data ThenSign {A : Type 0} (sign : List ℕ) (Calls : MutBor Reader → Result A SyntaxError → MutBor Reader → Type 0) (before after : Reader) : Result A SyntaxError → Type 0 where
   NoPart : (old new : MutBor Reader) (e : SyntaxError) → old.now ≡ before → Calls old (Err e) new → after ≡ new.now → ThenSign sign Calls before after (Err e)
-  NoSign : (old new : MutBor Reader) (y : A) (e : SyntaxError) → old.now ≡ before → Calls old (Ok y) new → MayRefuse (Begins (IsSign sign) (ahead new.now)) (place new.now) e → after ≡ new.now → ThenSign sign Calls before after (Err e)
+  NoSign : (old new : MutBor Reader) (y : A) (e : SyntaxError) → old.now ≡ before → Calls old (Ok y) new → MayRefuse (Begins (IsSign sign) (ahead new.now)) (token_place new.now) e → after ≡ new.now → ThenSign sign Calls before after (Err e)
   Both : (old new : MutBor Reader) (y : A) → old.now ≡ before → Calls old (Ok y) new → Takes (Sign sign) (ahead new.now) (ahead after) → ThenSign sign Calls before after (Ok y)
 
 -- A reader of what a grammar spells, where what follows it is so.
@@ -184,3 +221,8 @@ pub data InSeries {A : Type 0} (sign : List ℕ) (Calls : MutBor Reader → Resu
   RefusedFirst : (old new : MutBor Reader) (e : SyntaxError) → old.now ≡ before → Calls old (Err e) new → after ≡ new.now → InSeries sign Calls before after (Err e)
   RefusedNext : (xs : List A) (mid : Reader) (old new : MutBor Reader) (e : SyntaxError) → WithSigns sign Calls before xs mid → Takes (Sign sign) (ahead mid) (ahead old.now) → Calls old (Err e) new → after ≡ new.now → InSeries sign Calls before after (Err e)
   WantingMemory : (e : SyntaxError) → IsWant e → InSeries sign Calls before after (Err e)
+
+-- What comes of reading parts with commas between them, perhaps none, up to a closing bracket.
+pub data InCommas {A : Type 0} (Calls : MutBor Reader → Result A SyntaxError → MutBor Reader → Type 0) (before after : Reader) : Result (List A) SyntaxError → Type 0 where
+  NoParts : EndsRound (ahead before) → after ≡ before → InCommas Calls before after (Ok [])
+  SomeParts : (result : Result (List A) SyntaxError) → (EndsRound (ahead before) → ⊥) → InSeries (codes ",") Calls before after result → InCommas Calls before after result

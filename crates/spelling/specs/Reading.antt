@@ -11,8 +11,8 @@ abbrev pub ahead : Reader → List Word
 ahead reader = words reader.text.now (drop reader.next reader.tokens.now)
 
 -- the number of the reader's token, or the greatest number of 32 bits
-abbrev pub place : Reader → ℕ
-place reader = min reader.next (2 ^ 32 - 1)
+abbrev pub token_place : Reader → ℕ
+token_place reader = min reader.next (2 ^ 32 - 1)
 
 -- a grammar spells the words between two places, of which there is at least one
 pub record Takes (Of : Grammar) (before : List Word) (after : List Word) : Type 0 where

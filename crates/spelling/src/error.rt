@@ -4,6 +4,9 @@ ghost use Rattle.spelling.specs.Bounds.{IfTooDeepAt};
 
 use thiserror::Error;
 
+/// What a reader answers: what the tokens spell, or why they spell nothing.
+pub type Parsed<T> = Result<T, SyntaxError>;
+
 /// Why tokens spell nothing. A token counts from 0, and is at most the number of tokens.
 #[derive(Clone, Copy, Debug, PartialEq, Eq, Error)]
 pub enum SyntaxError {

@@ -8,8 +8,8 @@ mod error;
 mod parts;
 mod reader;
 
-pub use brackets::in_brackets;
+pub use brackets::{Brackets, in_brackets};
 pub use collecting::keep;
-pub use error::SyntaxError;
-pub use parts::{separated, then_sign, until, until_reserved};
+pub use error::{Parsed, SyntaxError};
+pub use parts::{End, commas, separated, then_sign, until, until_closed};
 pub use reader::Reader;

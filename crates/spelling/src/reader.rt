@@ -4,11 +4,11 @@ ghost use Rattle.spelling.specs.Words.{piece_of, words};
 ghost use Rattle.spelling.specs.Grammar.{Begins, BeginSigns, IncludeOf, IsAnyNumber, IsName};
 ghost use Rattle.spelling.specs.Grammar.{IsNamed, IsNum, IsReserved, IsSign, Named, Num, NumberOf};
 ghost use Rattle.spelling.specs.Grammar.{Reserved, Sign, TwoSigns};
-ghost use Rattle.spelling.specs.Reading.{ahead, place, Takes};
+ghost use Rattle.spelling.specs.Reading.{ahead, token_place, Takes};
 ghost use Rattle.spelling.specs.Readers.{RefusesBracket, RefusesInclude, RefusesNumber, RefusesWord};
 ghost use Rattle.spelling.specs.Readers.{AtEnd, NextIs, TakesOver};
 
-use crate::error::SyntaxError;
+use crate::error::{Parsed, SyntaxError};
 use elx_bits::Name;
 use p4_lexer::{Kind, Token};
 use std::alloc::Global;
@@ -71,7 +71,7 @@ impl<'a> Reader<'a> {
 
     /// The refusal that the tokens spell no program, at the next token.
     pub fn refusal(&self) -> SyntaxError
-        ensures { result ≡ SyntaxError.NotProgram (place self.now) }
+        ensures { result ≡ SyntaxError.NotProgram (token_place self.now) }
     {
         SyntaxError::NotProgram {
             token: self.place(),
@@ -80,7 +80,7 @@ impl<'a> Reader<'a> {
 
     /// The refusal that the next token lies deeper, or has more operators before it, than is allowed.
     pub fn too_deep(&self) -> SyntaxError
-        ensures { result ≡ SyntaxError.TooDeep (place self.now) }
+        ensures { result ≡ SyntaxError.TooDeep (token_place self.now) }
     {
         SyntaxError::TooDeep {
             token: self.place(),
@@ -165,7 +165,7 @@ impl<'a> Reader<'a> {
     }
 
     /// Goes over this sign. NotProgram where the next token is another; the reader stays then.
-    pub fn sign(&mut self, sign: &[u8]) -> Result<(), SyntaxError>
+    pub fn sign(&mut self, sign: &[u8]) -> Parsed<()>
         ensures taken { OnOk result (Takes (Sign sign.now) (ahead self.old) (ahead self.new)) }
         ensures refused { RefusesWord (IsSign sign.now) self.old result }
         ensures left { OnErr result (self.new ≡ self.old) }
@@ -190,7 +190,7 @@ impl<'a> Reader<'a> {
     }
 
     /// Goes over this reserved word. NotProgram where the next token is another; the reader stays then.
-    pub fn reserved(&mut self, text: &[u8]) -> Result<(), SyntaxError>
+    pub fn reserved(&mut self, text: &[u8]) -> Parsed<()>
         ensures taken { OnOk result (Takes (Reserved text.now) (ahead self.old) (ahead self.new)) }
         ensures refused { RefusesWord (IsReserved text.now) self.old result }
         ensures left { OnErr result (self.new ≡ self.old) }
@@ -203,7 +203,7 @@ impl<'a> Reader<'a> {
     }
 
     /// Goes over this name, which the grammar fixes. NotProgram where the next token is another; the reader stays then.
-    pub fn fixed_name(&mut self, name: &[u8]) -> Result<(), SyntaxError>
+    pub fn fixed_name(&mut self, name: &[u8]) -> Parsed<()>
         ensures taken { OnOk result (Takes (Named name.now) (ahead self.old) (ahead self.new)) }
         ensures refused { RefusesWord (IsNamed name.now) self.old result }
         ensures left { OnErr result (self.new ≡ self.old) }
@@ -218,7 +218,7 @@ impl<'a> Reader<'a> {
     /// Goes over this opening bracket, and gives how many more may be open in it; `depth` is how many may be open from
     /// here on, this one counted. NotProgram where the next token is another, TooDeep where it is there and `depth` is 0;
     /// the reader stays then.
-    pub fn open(&mut self, bracket: &[u8], depth: u32) -> Result<u32, SyntaxError>
+    pub fn open(&mut self, bracket: &[u8], depth: u32) -> Parsed<u32>
         ensures depth { IfOk result (λ inner. depth ≡ inner + 1) }
         ensures taken { OnOk result (Takes (Sign bracket.now) (ahead self.old) (ahead self.new)) }
         ensures refused { RefusesBracket bracket.now depth self.old result }
@@ -237,7 +237,7 @@ impl<'a> Reader<'a> {
     }
 
     /// Reads a name. NotProgram where the next token is none; the reader stays then, and for want of memory.
-    pub fn name(&mut self, alloc: Global) -> Result<Name, SyntaxError>
+    pub fn name(&mut self, alloc: Global) -> Parsed<Name>
         ensures taken { IfOk result (λ name. Takes (Named name) (ahead self.old) (ahead self.new)) }
         ensures refused { RefusesWord IsName self.old result }
         ensures left { OnErr result (self.new ≡ self.old) }
@@ -257,7 +257,7 @@ impl<'a> Reader<'a> {
 
     /// Reads a number that has no width and is at most `most`. NotProgram where the next token is none; the reader stays
     /// then.
-    pub fn number(&mut self, most: u128) -> Result<u128, SyntaxError>
+    pub fn number(&mut self, most: u128) -> Parsed<u128>
         ensures within { IfOk result (λ value. value ≤ most) }
         ensures taken { IfOk result (λ value. Takes (Num value) (ahead self.old) (ahead self.new)) }
         ensures refused { RefusesNumber most self.old result }
@@ -274,7 +274,7 @@ impl<'a> Reader<'a> {
     }
 
     /// Reads a number and its width, where it has one. NotProgram where the next token is none; the reader stays then.
-    pub fn any_number(&mut self) -> Result<(Option<u8>, u128), SyntaxError>
+    pub fn any_number(&mut self) -> Parsed<(Option<u8>, u128)>
         ensures taken { IfOk result (λ number. TakesOver (NumberOf number) self.old self.new) }
         ensures refused { RefusesWord IsAnyNumber self.old result }
         ensures left { OnErr result (self.new ≡ self.old) }
@@ -290,7 +290,7 @@ impl<'a> Reader<'a> {
     }
 
     /// Reads an include, and gives the number of its file. NotProgram where the next token is none; the reader stays then.
-    pub fn include(&mut self) -> Result<u8, SyntaxError>
+    pub fn include(&mut self) -> Parsed<u8>
         ensures taken { IfOk result (λ file. TakesOver (IncludeOf file) self.old self.new) }
         ensures refused { RefusesInclude self.old result }
         ensures left { OnErr result (self.new ≡ self.old) }
@@ -325,7 +325,7 @@ impl<'a> Reader<'a> {
 
     /// The number of the next token, or the greatest number of 32 bits.
     fn place(&self) -> u32
-        ensures { result ≡ place self.now }
+        ensures { result ≡ token_place self.now }
     {
         u32::try_from(self.next).unwrap_or(u32::MAX)
     }

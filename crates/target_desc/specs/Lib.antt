@@ -1,3 +1,4 @@
+pub mod TargetKeys
 pub mod InRange
 pub mod TargetText
 pub mod OneTarget

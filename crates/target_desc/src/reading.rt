@@ -1,45 +1,46 @@
-ghost use Rattle.std.specs.Prelude.{◌≡◌, ◌≤◌, ℕ, List, MatchOption, IfOk, string_bytes, option_and_then};
+ghost use Rattle.std.specs.Prelude.{◌≡◌, IfOk, string_bytes, option_and_then};
 ghost use Rattle.std.specs.BTreeMap.{keys};
-ghost use Rattle.std.specs.List.{list_all};
+ghost use Rattle.std.specs.List.{find, list_all};
 ghost use Rattle.toml.specs.Data.{as_integer, get_member};
 ghost use Rattle.toml.specs.View.{table_view};
 ghost use Rattle.target_desc.specs.InRange.{IsInRange};
-ghost use Rattle.target_desc.specs.TargetText.{IsNumberAt, IsTargetFound, IsTargetText, Reads, has_no_other_key, is_key};
+ghost use Rattle.target_desc.specs.TargetKeys.{target_keys};
+ghost use Rattle.target_desc.specs.TargetText.{AreNumbersFound, IsNumberBetween, IsNumberFound, IsTargetFound};
+ghost use Rattle.target_desc.specs.TargetText.{ReadsTarget, has_no_other_key, is_key, lacks};
 ghost use Rattle.target_desc.specs.declared.target.Target.{Target};
 ghost use Rattle.target_desc.specs.OneTarget.{DescribesAtMostOne};
 
+use crate::key_name::KeyName;
 use crate::target::{Target, TargetError};
 use std::alloc::Global;
 use toml::Table;
 
-/// The most stages of a target.
-const MOST_STAGES: u64 = 64;
-
-/// The most bits of each kind of memory in a stage.
-const MOST_STAGE_BITS: u64 = 1_000_000_000;
-
-/// The most actions of each kind in a stage.
-const MOST_STAGE_ACTIONS: u64 = 1024;
-
-const MOST_HEADER_BITS: u64 = 1_000_000;
-
-/// The most operators of a unit.
-const MOST_UNIT_OPERATORS: u64 = 64;
+/// The keys of a target's numbers, in the order in which they are looked at.
+const KEYS: [KeyName; 8] = [
+    KeyName::Stages,
+    KeyName::MemoryBits,
+    KeyName::Stateful,
+    KeyName::Stateless,
+    KeyName::TableBits,
+    KeyName::TernaryBits,
+    KeyName::HeaderBits,
+    KeyName::Ops,
+];
 
 /// Reads the description of a target: a TOML document in UTF-8 with the eight keys of a target, each with a whole
-/// number in its range, and no other key. `NotYet` comes where the text is anything else.
+/// number in its range, and no other key.
+///
+/// NotToml comes where the text is no such document, and then, in this order, UnknownKey where its table has another key,
+/// MissingKey with the first key that it lacks, and OutOfRange with the first key whose value is no whole number in its
+/// range. Memory comes only for want of memory.
 pub fn read(alloc: Global, text: &[u8]) -> Result<Target, TargetError>
-    ensures reads { Reads text.now result }
+    ensures reads { ReadsTarget text.now result }
     ensures ranges { IfOk result IsInRange }
 {
-    let table = match toml::table_from_slice(alloc, text) {
-        Ok(table) => table,
-        Err(error) if error.is_memory() => return Err(TargetError::Memory),
-        Err(_) => return Err(TargetError::NotYet),
-    };
-    match target_of(&table) {
-        Some(target) => Ok(target),
-        None => Err(TargetError::NotYet),
+    match toml::table_from_slice(alloc, text) {
+        Ok(table) => target_of(&table),
+        Err(error) if error.is_memory() => Err(TargetError::Memory),
+        Err(_) => Err(TargetError::NotToml),
     }
 }
 
@@ -48,21 +49,30 @@ pub fn at_most_one_target()
     ensures { DescribesAtMostOne }
 {}
 
-fn target_of(table: &Table) -> Option<Target>
+fn target_of(table: &Table) -> Result<Target, TargetError>
     ensures { IsTargetFound (table_view table.now) result }
 {
     if !has_no_other_key(table) {
-        return None;
+        return Err(TargetError::UnknownKey);
     }
-    let stages = number_at(table, "stages", 1, MOST_STAGES)?;
-    let memory_bits = number_at(table, "memory_bits", 0, MOST_STAGE_BITS)?;
-    let stateful = number_at(table, "stateful", 0, MOST_STAGE_ACTIONS)?;
-    let stateless = number_at(table, "stateless", 0, MOST_STAGE_ACTIONS)?;
-    let table_bits = number_at(table, "table_bits", 0, MOST_STAGE_BITS)?;
-    let ternary_bits = number_at(table, "ternary_bits", 0, MOST_STAGE_BITS)?;
-    let header_bits = number_at(table, "header_bits", 0, MOST_HEADER_BITS)?;
-    let ops = number_at(table, "ops", 0, MOST_UNIT_OPERATORS)?;
-    Some(Target {
+    if let Some(key) = first_missing(table) {
+        return Err(TargetError::MissingKey { key });
+    }
+    numbers_of(table)
+}
+
+fn numbers_of(table: &Table) -> Result<Target, TargetError>
+    ensures { AreNumbersFound (table_view table.now) result }
+{
+    let stages = number_at(table, KeyName::Stages)?;
+    let memory_bits = number_at(table, KeyName::MemoryBits)?;
+    let stateful = number_at(table, KeyName::Stateful)?;
+    let stateless = number_at(table, KeyName::Stateless)?;
+    let table_bits = number_at(table, KeyName::TableBits)?;
+    let ternary_bits = number_at(table, KeyName::TernaryBits)?;
+    let header_bits = number_at(table, KeyName::HeaderBits)?;
+    let ops = number_at(table, KeyName::Ops)?;
+    Ok(Target {
         stages: stages as u8,
         memory_bits,
         stateful,
@@ -74,15 +84,22 @@ fn target_of(table: &Table) -> Option<Target>
     })
 }
 
-/// The whole number at a key, or None where there is none from `low` to `high`.
-fn number_at(table: &Table, key: &str, low: u64, high: u64) -> Option<u64>
-    ensures { MatchOption result
-        ((n : ℕ) → IsNumberAt (table_view table.now) key.now n → low ≤ n → n ≤ high → ⊥)
-        (λ n. IsNumberAt (table_view table.now) key.now n × (low ≤ n) × (n ≤ high)) }
+/// The whole number at a key, where it is in the key's range.
+fn number_at(table: &Table, key: KeyName) -> Result<u64, TargetError>
+    ensures { IsNumberFound (table_view table.now) key result }
 {
-    let value = integer_at(table, key)?;
-    let number = u64::try_from(value).ok()?;
-    if low <= number && number <= high {
+    match number_between(integer_at(table, key.text()), key.least(), key.most()) {
+        Some(number) => Ok(number),
+        None => Err(TargetError::OutOfRange { key }),
+    }
+}
+
+/// A whole number from `least` to `most`.
+fn number_between(found: Option<i64>, least: u64, most: u64) -> Option<u64>
+    ensures { IsNumberBetween least most found result }
+{
+    let number = u64::try_from(found?).ok()?;
+    if least <= number && number <= most {
         Some(number)
     } else {
         None
@@ -98,6 +115,22 @@ fn integer_at(table: &Table, key: &str) -> Option<i64>
     }
 }
 
+/// The first key that a table lacks.
+fn first_missing(table: &Table) -> Option<KeyName>
+    ensures { result ≡ find (lacks (table_view table.now)) target_keys }
+{
+    KEYS.iter().copied().find(|key| lacks(table, *key))
+}
+
+fn lacks(table: &Table, key: KeyName) -> bool
+    ensures { result ≡ lacks (table_view table.now) key }
+{
+    match table.get(key.text()) {
+        Some(_) => false,
+        None => true,
+    }
+}
+
 fn has_no_other_key(table: &Table) -> bool
     ensures { result ≡ has_no_other_key (table_view table.now) }
 {
@@ -110,17 +143,10 @@ fn all_keys_known(table: &Table) -> bool
     table.keys().all(|key| is_key(key.as_str()))
 }
 
-fn is_key(key: &str) -> bool
-    ensures { result ≡ is_key key.now }
+fn is_key(text: &str) -> bool
+    ensures { result ≡ is_key text.now }
 {
-    key == "stages"
-        || key == "memory_bits"
-        || key == "stateful"
-        || key == "stateless"
-        || key == "table_bits"
-        || key == "ternary_bits"
-        || key == "header_bits"
-        || key == "ops"
+    KEYS.iter().any(|key| text == key.text())
 }
 
 #[cfg(test)]
@@ -145,30 +171,44 @@ mod tests {
     }
 
     #[test]
-    fn every_other_text_is_refused(rt: HostRuntime) {
+    fn every_other_text_is_refused_for_its_first_cause(rt: HostRuntime) {
         let rest =
             "memory_bits = 1024\nstateful = 2\nstateless = 8\ntable_bits = 1024\nternary_bits = 1024\nheader_bits = 64\n";
-        for (first, last) in [
-            ("stages = 1\n", ""),
-            ("stages = 1\n", "ops = 8\nspare = 1\n"),
-            ("stages = 0\n", "ops = 8\n"),
-            ("stages = 65\n", "ops = 8\n"),
-            ("stages = -1\n", "ops = 8\n"),
-            ("stages = 1.0\n", "ops = 8\n"),
-            ("stages = 1\nstages = 1\n", "ops = 8\n"),
-            ("stages = 1\n", "ops = 65\n"),
-            ("stages = \n", "ops = 8\n"),
+        let missing = |key| TargetError::MissingKey { key };
+        let outside = |key| TargetError::OutOfRange { key };
+        for (first, last, why) in [
+            ("stages = 1\n", "", missing(KeyName::Ops)),
+            ("", "", missing(KeyName::Stages)),
+            ("", "ops = 65\n", missing(KeyName::Stages)),
+            (
+                "stages = 1\n",
+                "ops = 8\nspare = 1\n",
+                TargetError::UnknownKey,
+            ),
+            ("stages = 65\n", "spare = 1\n", TargetError::UnknownKey),
+            ("stages = 0\n", "ops = 8\n", outside(KeyName::Stages)),
+            ("stages = 65\n", "ops = 65\n", outside(KeyName::Stages)),
+            ("stages = -1\n", "ops = 8\n", outside(KeyName::Stages)),
+            ("stages = 1.0\n", "ops = 8\n", outside(KeyName::Stages)),
+            ("stages = \"1\"\n", "ops = 8\n", outside(KeyName::Stages)),
+            ("stages = 1\n", "ops = 65\n", outside(KeyName::Ops)),
+            (
+                "stages = 1\nstages = 1\n",
+                "ops = 8\n",
+                TargetError::NotToml,
+            ),
+            ("stages = \n", "ops = 8\n", TargetError::NotToml),
         ] {
             let text = format!(in rt.alloc(); "{first}{rest}{last}").expect(&rt, "memory");
             assert_eq!(rt;
                 read(rt.alloc(), text.as_bytes()),
-                Err(TargetError::NotYet),
+                Err(why),
                 "{first}{last}"
             );
         }
         assert_eq!(rt;
             read(rt.alloc(), b"# \xff\n"),
-            Err(TargetError::NotYet),
+            Err(TargetError::NotToml),
             "no UTF-8"
         );
     }

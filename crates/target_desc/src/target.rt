@@ -1,3 +1,4 @@
+use crate::key_name::KeyName;
 use thiserror::Error;
 
 /// What a switch offers to a program.
@@ -24,9 +25,18 @@ pub struct Target {
 /// Why a text was not read as a target.
 #[derive(Clone, Copy, Debug, PartialEq, Eq, Error)]
 pub enum TargetError {
-    /// The text describes no target.
-    #[error("the text describes no target")]
-    NotYet,
+    /// The text is no TOML document.
+    #[error("the text is no TOML document")]
+    NotToml,
+    /// The table has a key that no number of a target has.
+    #[error("the table has a key that no number of a target has")]
+    UnknownKey,
+    /// The first of the keys that the table lacks.
+    #[error("the key {key} is missing")]
+    MissingKey { key: KeyName },
+    /// The first of the keys whose value is no whole number in its range.
+    #[error("the value of {key} is no whole number in its range")]
+    OutOfRange { key: KeyName },
     /// There was no memory left.
     #[error("out of memory")]
     Memory,

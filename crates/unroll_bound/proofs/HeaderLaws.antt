@@ -15,7 +15,7 @@ use Rattle.elastic_ast.specs.declared.declarations.Field.{Field}
 use Rattle.elastic_ast.specs.Tree.{Name, PlainDecl}
 use Rattle.size_terms.specs.Places.{place_of}
 use Rattle.width_check.proofs.Steps.{items_drop}
-use Rattle.unroll_bound.specs.HeaderUse.{capped, width_at, element_bits, AddsFields, IsUseOf}
+use Rattle.unroll_bound.specs.HeaderUse.{capped, width_for, element_bits, AddsFields, IsUseOf}
 use Rattle.unroll_bound.specs.declared.header.HeaderUse.{HeaderUse}
 
 capped_both : (old mid new a b c : ℕ) → c ≡ a + b → capped mid ≡ capped (old + a) → capped new ≡ capped (mid + b) → capped new ≡ capped (old + c)
@@ -58,14 +58,14 @@ pub adds_scalar : (symbols : List Name) (old new : HeaderUse) (field : Field) �
 adds_scalar symbols old new field none sum kept = record {
   fixed = capped_more old.fixed_bits new.fixed_bits field.width _ (one_field scalar_bits field field.width (scalar_of field None none)) sum;
   each = λ place h.
-      let e : element_bits symbols place field ≡ 0 = ap (λ z. width_at field.width place (option_and_then (place_of symbols) z)) none in
+      let e : element_bits symbols place field ≡ 0 = ap (λ z. width_for field.width place (option_and_then (place_of symbols) z)) none in
       ap (λ z. capped (get_or z place 0)) kept ∙ capped_same (get_or old.symbol_bits.items place 0) _ (one_field (element_bits symbols place) field 0 e);
   dense = ap length kept;
 }
 
 -- the bits of an array for each element, where the table of names has its symbol at a place or doesn't have it
-array_of : (symbols : List Name) (place : ℕ) (field : Field) (name : Name) (found : Option ℕ) → field.size ≡ Some name → found ≡ place_of symbols name → element_bits symbols place field ≡ width_at field.width place found
-array_of symbols place field name found some here = ap (λ z. width_at field.width place (option_and_then (place_of symbols) z)) some ∙ ap (width_at field.width place) (sym here)
+array_of : (symbols : List Name) (place : ℕ) (field : Field) (name : Name) (found : Option ℕ) → field.size ≡ Some name → found ≡ place_of symbols name → element_bits symbols place field ≡ width_for field.width place found
+array_of symbols place field name found some here = ap (λ z. width_for field.width place (option_and_then (place_of symbols) z)) some ∙ ap (width_for field.width place) (sym here)
 
 -- an array of no symbol
 pub adds_nowhere : (symbols : List Name) (bits : HeaderUse) (field : Field) (name : Name) → field.size ≡ Some name → None ≡ place_of symbols name → AddsFields symbols bits bits (field ∷ [])
@@ -84,7 +84,7 @@ adds_array symbols old new field name at x some here dense sum kept changed = re
   dense = ap length changed ∙ length-set old.symbol_bits.items at x;
 }
   where
-    width_of : (place bits : ℕ) → width_at field.width place (Some at) ≡ bits → sum_by (element_bits symbols place) (field ∷ []) ≡ bits
+    width_of : (place bits : ℕ) → width_for field.width place (Some at) ≡ bits → sum_by (element_bits symbols place) (field ∷ []) ≡ bits
     width_of place bits e = one_field (element_bits symbols place) field bits (array_of symbols place field name (Some at) some here ∙ e)
 
     same_place : (place : ℕ) → at ≡ place → place < length symbols → capped (get_or (set old.symbol_bits.items at x) place 0) ≡ capped (get_or old.symbol_bits.items place 0 + sum_by (element_bits symbols place) (field ∷ []))
@@ -92,7 +92,7 @@ adds_array symbols old new field name at x some here dense sum kept changed = re
         let within : at < length old.symbol_bits.items = omega arith in
         let value : get_or (set old.symbol_bits.items at x) place 0 ≡ x = ap (λ i. get_or (set old.symbol_bits.items at x) i 0) (sym e) ∙ get_or-set_same old.symbol_bits.items at x 0 within in
         let old_value : get_or old.symbol_bits.items at 0 ≡ get_or old.symbol_bits.items place 0 = ap (λ i. get_or old.symbol_bits.items i 0) e in
-        let width = width_of place field.width (ap (λ i. width_at field.width place (Some i)) e ∙ width_here field.width place) in
+        let width = width_of place field.width (ap (λ i. width_for field.width place (Some i)) e ∙ width_here field.width place) in
         capped_more (get_or old.symbol_bits.items place 0) _ field.width _ width (value ∙ sum ∙ ap (λ z. min (z + field.width) (2 ^ 64 - 1)) old_value)
 
     other_place : (place : ℕ) → at ≢ place → capped (get_or (set old.symbol_bits.items at x) place 0) ≡ capped (get_or old.symbol_bits.items place 0 + sum_by (element_bits symbols place) (field ∷ []))

@@ -7,7 +7,6 @@ use Rattle.std.proofs.lemmas.List.{get_or-map}
 use Rattle.std.proofs.lemmas.List.Concat.{flat_map-append}
 use Rattle.std.proofs.lemmas.List.Folds.{list_any-append}
 use Rattle.std.proofs.lemmas.List.Sums.{sum_by-cons}
-use Rattle.std.proofs.lemmas.Slice.Eq.{bytes_eq-Decides}
 use Rattle.elastic_ast.specs.declared.declarations.Field.{Field}
 use Rattle.elastic_ast.specs.declared.rule.Rule.{Rule}
 use Rattle.elastic_ast.specs.Tree.{Name, PlainDecl, PlainStmts}
@@ -23,13 +22,14 @@ use Rattle.elastic_ast.specs.Typing.Typed.{broken_rule, first_of}
 use Rattle.elastic_ast.specs.Units.UnitsOf.{flat, units_of, member_bits, scalar_bits, predicate_bits, fixed_bits, is_of_size, array_bits, bits_of_symbol, symbol_bits}
 use Rattle.elastic_ast.specs.Units.Costs.{place_of_symbol}
 use Rattle.elastic_laws.proofs.Typing.TypedFacts.{parts}
-use Rattle.elastic_ast.proofs.Typing.TypedLaws.{none_both}
+use Rattle.elastic_ast.proofs.Typing.SameNames.{same_if, same_told}
+use Rattle.elastic_ast.proofs.Typing.TypedLaws.{none_both, unmapped}
 use Rattle.elastic_laws.proofs.Typing.TypedNames.{names_new}
 use Rattle.size_terms.specs.Places.{place_of}
 use Rattle.size_terms.proofs.SumLaws.{within_from}
 use Rattle.width_check.specs.Supported.{is_supported}
 use Rattle.width_check.specs.Sound.{IsSound}
-use Rattle.unroll_bound.specs.HeaderUse.{width_at, element_bits}
+use Rattle.unroll_bound.specs.HeaderUse.{width_for, element_bits}
 use Rattle.unroll_bound.proofs.Widths.{width_here, width_there}
 
 -- a look-up that no supported declaration answers
@@ -43,33 +43,11 @@ none_found gives none (decl ∷ decls) all = by (is_supported decl) refl all (no
 
 no_members : (decl : PlainDecl) → is_supported decl ≡ true → members_in decl ≡ None
 no_members (PlainDecl.Headers members) e = cc
-no_members (PlainDecl.Include number) e = refl
-no_members (PlainDecl.Symbol name) e = refl
-no_members (PlainDecl.Assume comps) e = refl
-no_members (PlainDecl.Maximize terms) e = refl
-no_members (PlainDecl.Const name width value) e = refl
-no_members (PlainDecl.Header name fields) e = refl
-no_members (PlainDecl.Meta fields) e = refl
-no_members (PlainDecl.Register name width cells size) e = refl
-no_members (PlainDecl.Parser name states) e = refl
-no_members (PlainDecl.Control name locals body) e = refl
-no_members (PlainDecl.Deparser name emits) e = refl
-no_members (PlainDecl.Main parser control deparser) e = refl
+no_members other e = refl
 
 no_main : (decl : PlainDecl) → is_supported decl ≡ true → main_in decl ≡ None
 no_main (PlainDecl.Main parser control deparser) e = cc
-no_main (PlainDecl.Include number) e = refl
-no_main (PlainDecl.Symbol name) e = refl
-no_main (PlainDecl.Assume comps) e = refl
-no_main (PlainDecl.Maximize terms) e = refl
-no_main (PlainDecl.Const name width value) e = refl
-no_main (PlainDecl.Header name fields) e = refl
-no_main (PlainDecl.Headers members) e = refl
-no_main (PlainDecl.Meta fields) e = refl
-no_main (PlainDecl.Register name width cells size) e = refl
-no_main (PlainDecl.Parser name states) e = refl
-no_main (PlainDecl.Control name locals body) e = refl
-no_main (PlainDecl.Deparser name emits) e = refl
+no_main other e = refl
 
 no_units : (decls : List PlainDecl) → IsSound decls → units_of decls ≡ []
 no_units decls sound = ap (λ main. flat decls (cut_all (unwrap_or (option_and_then (λ m. found (control_in m.1) decls) main) PlainStmts.nil) false 0 None) 0) (none_found main_in no_main decls sound.supported)
@@ -85,16 +63,6 @@ fixed_law decls sound =
 abbrev AreApart : List Name → Type 0
 AreApart [] = Unit {0}
 AreApart (name ∷ names) = (among names name ≡ false) × AreApart names
-
-unmapped : (rule : Option Rule) (number : ℕ) → option_map (λ x. let p : Rule × ℕ = (x, number) in p) rule ≡ None → rule ≡ None
-unmapped None number h = refl
-unmapped (Some x) number h = cc
-
-same_told : (a b : Name) → same a b ≡ true → a ≡ b
-same_told a b e = (bytes_eq-Decides a b).0 e
-
-same_is : (a b : Name) → a ≡ b → same a b ≡ true
-same_is a b e = (bytes_eq-Decides a b).1 e
 
 -- symbols behind some declarations are apart, and none has a name of these
 record Behind (before decls : List PlainDecl) : Type 0 where
@@ -127,7 +95,7 @@ one_more before decls decl new rest = by decl refl
 
     symbol : (own : Name) → decl ≡ PlainDecl.Symbol own → Behind before (decl ∷ decls)
     symbol own e =
-        let here : among (top_name decl ++ []) own ≡ true = ap (λ d. among (top_name d ++ []) own) e ∙ ap (λ b. b || false) (same_is own own refl) in
+        let here : among (top_name decl ++ []) own ≡ true = ap (λ d. among (top_name d ++ []) own) e ∙ ap (λ b. b || false) (same_if own own refl) in
         let is_new : among (top_names before) own ≡ false = (names_new true (top_names before) (own ∷ []) (subst (λ d. first_broken true (asks_names (top_names before) (top_name d)) ≡ None) e new) 0 own refl).0 in
         let named : symbol_name decl ≡ own ∷ [] = ap symbol_name e in record {
           apart = subst (λ z. AreApart (z ++ symbols_of decls)) (sym named) (rest.fresh own (right (among (top_names before) own) (among (top_name decl ++ []) own) (among (top_names (before ++ decl ∷ [])) own) (names own) here), rest.apart);
@@ -140,18 +108,7 @@ one_more before decls decl new rest = by decl refl
 
     by : (d : PlainDecl) → decl ≡ d → Behind before (decl ∷ decls)
     by (PlainDecl.Symbol own) e = symbol own e
-    by (PlainDecl.Include number) e = other (ap symbol_name e)
-    by (PlainDecl.Assume comps) e = other (ap symbol_name e)
-    by (PlainDecl.Maximize terms) e = other (ap symbol_name e)
-    by (PlainDecl.Const name width value) e = other (ap symbol_name e)
-    by (PlainDecl.Header name fields) e = other (ap symbol_name e)
-    by (PlainDecl.Headers members) e = other (ap symbol_name e)
-    by (PlainDecl.Meta fields) e = other (ap symbol_name e)
-    by (PlainDecl.Register name width cells size) e = other (ap symbol_name e)
-    by (PlainDecl.Parser name states) e = other (ap symbol_name e)
-    by (PlainDecl.Control name locals body) e = other (ap symbol_name e)
-    by (PlainDecl.Deparser name emits) e = other (ap symbol_name e)
-    by (PlainDecl.Main parser control deparser) e = other (ap symbol_name e)
+    by rest e = other (ap symbol_name e)
 
 behind : (number : ℕ) (before decls : List PlainDecl) → first_of (broken_rule true) number before decls ≡ None → Behind before decls
 unfolding broken_rule
@@ -163,31 +120,31 @@ behind number before (decl ∷ decls) h =
 
 -- a width at the place of a name, where the names are apart: there and nowhere else
 at_place : (name : Name) (width k place : ℕ) (symbols : List Name) → AreApart symbols → place < length symbols
-    → (if same (get_or symbols place []) name then width else 0) ≡ width_at width (k + place) (position_from (same name) k symbols)
+    → (if same (get_or symbols place []) name then width else 0) ≡ width_for width (k + place) (position_from (same name) k symbols)
 at_place name width k place [] apart h = absurd (omega arith)
 at_place name width k zero (m ∷ ms) apart h = by (same name m) refl
   where
-    by : (b : Bool) → same name m ≡ b → (if same m name then width else 0) ≡ width_at width (k + 0) (cond b (Some k) (position_from (same name) (k + 1) ms))
+    by : (b : Bool) → same name m ≡ b → (if same m name then width else 0) ≡ width_for width (k + 0) (cond b (Some k) (position_from (same name) (k + 1) ms))
     by true e =
-        let s : same m name ≡ true = same_is m name (sym (same_told name m e)) in
-        let p : width_at width (k + 0) (Some k) ≡ width = ap (λ z. width_at width z (Some k)) (omega arith) ∙ width_here width k in
+        let s : same m name ≡ true = same_if m name (sym (same_told name m e)) in
+        let p : width_for width (k + 0) (Some k) ≡ width = ap (λ z. width_for width z (Some k)) (omega arith) ∙ width_here width k in
         ap (λ z. if z then width else 0) s ∙ sym p
     by false e = ap (λ z. if z then width else 0) (turned (same m name) refl) ∙ sym (later (position_from (same name) (k + 1) ms) refl)
       where
         turned : (b : Bool) → same m name ≡ b → same m name ≡ false
         turned false f = f
-        turned true f = absurd (true≢false (sym (same_is name m (sym (same_told m name f))) ∙ e))
+        turned true f = absurd (true≢false (sym (same_if name m (sym (same_told m name f))) ∙ e))
 
-        later : (o : Option ℕ) → position_from (same name) (k + 1) ms ≡ o → width_at width (k + 0) (position_from (same name) (k + 1) ms) ≡ 0
-        later None f = ap (width_at width (k + 0)) f
+        later : (o : Option ℕ) → position_from (same name) (k + 1) ms ≡ o → width_for width (k + 0) (position_from (same name) (k + 1) ms) ≡ 0
+        later None f = ap (width_for width (k + 0)) f
         later (Some p) f =
             let q = (within_from name (k + 1) ms p f).0 in
             let ne : p ≢ k + 0 = omega (arith, q) in
-            ap (width_at width (k + 0)) f ∙ width_there width (k + 0) p ne
+            ap (width_for width (k + 0)) f ∙ width_there width (k + 0) p ne
 at_place name width k (suc place) (m ∷ ms) apart h = by (same name m) refl (at_place name width (k + 1) place ms apart.1 (omega arith))
   where
-    by : (b : Bool) → same name m ≡ b → (if same (get_or ms place []) name then width else 0) ≡ width_at width (k + 1 + place) (position_from (same name) (k + 1) ms)
-        → (if same (get_or ms place []) name then width else 0) ≡ width_at width (k + suc place) (cond b (Some k) (position_from (same name) (k + 1) ms))
+    by : (b : Bool) → same name m ≡ b → (if same (get_or ms place []) name then width else 0) ≡ width_for width (k + 1 + place) (position_from (same name) (k + 1) ms)
+        → (if same (get_or ms place []) name then width else 0) ≡ width_for width (k + suc place) (cond b (Some k) (position_from (same name) (k + 1) ms))
     by true e later =
         let ne : k ≢ k + suc place = omega arith in
         ap (λ z. if z then width else 0) (other (same (get_or ms place []) name) refl) ∙ sym (width_there width (k + suc place) k ne)
@@ -200,19 +157,19 @@ at_place name width k (suc place) (m ∷ ms) apart h = by (same name m) refl (at
           where
             stands : (names : List Name) (i : ℕ) → i < length names → get_or names i [] ≡ m → among names m ≡ true
             stands [] i l g = absurd (omega arith)
-            stands (n ∷ names) zero l g = ap (λ b. b || among names m) (same_is m n (sym g))
+            stands (n ∷ names) zero l g = ap (λ b. b || among names m) (same_if m n (sym g))
             stands (n ∷ names) (suc i) l g = or_right (same m n) (among names m) (stands names i (omega arith) g)
-    by false e later = later ∙ ap (λ z. width_at width z (position_from (same name) (k + 1) ms)) (omega arith)
+    by false e later = later ∙ ap (λ z. width_for width z (position_from (same name) (k + 1) ms)) (omega arith)
 
 -- the bits of a field for each element, by the name of its symbol and by the place of it
 element_is : (symbols : List Name) (place : ℕ) → AreApart symbols → place < length symbols → (field : Field) → array_bits (get_or symbols place []) field ≡ element_bits symbols place field
 element_is symbols place apart h field = by field.size refl
   where
     by : (size : Option Name) → field.size ≡ size → array_bits (get_or symbols place []) field ≡ element_bits symbols place field
-    by None e = ap (λ z. if is_of_size (get_or symbols place []) z then field.width else 0) e ∙ sym (ap (λ z. width_at field.width place (option_and_then (place_of symbols) z)) e)
+    by None e = ap (λ z. if is_of_size (get_or symbols place []) z then field.width else 0) e ∙ sym (ap (λ z. width_for field.width place (option_and_then (place_of symbols) z)) e)
     by (Some name) e =
-        ap (λ z. if is_of_size (get_or symbols place []) z then field.width else 0) e ∙ at_place name field.width 0 place symbols apart h ∙ ap (λ z. width_at field.width z (place_of symbols name)) (omega arith)
-        ∙ sym (ap (λ z. width_at field.width place (option_and_then (place_of symbols) z)) e)
+        ap (λ z. if is_of_size (get_or symbols place []) z then field.width else 0) e ∙ at_place name field.width 0 place symbols apart h ∙ ap (λ z. width_for field.width z (place_of symbols name)) (omega arith)
+        ∙ sym (ap (λ z. width_for field.width place (option_and_then (place_of symbols) z)) e)
 
 sums_alike : (f g : Field → ℕ) → ((field : Field) → f field ≡ g field) → (fields : List Field) → sum_by f fields ≡ sum_by g fields
 sums_alike f g same [] = refl

@@ -10,7 +10,7 @@ use Rattle.size_terms.specs.Coefficients.{rows_of}
 use Rattle.size_terms.specs.Rows.{is_whole, RowHolds, RowsHold}
 use Rattle.size_terms.proofs.CoefficientLaws.{rows_are}
 use Rattle.size_terms.proofs.DotLaws.{row_bounds_one}
-use Rattle.unroll_bound.specs.Bound.{lesser, most_of, row_bound, rows_bound, bits_bound}
+use Rattle.unroll_bound.specs.Bound.{lesser, most_times, row_bound, rows_bound, bits_bound}
 use Rattle.elastic_ast.specs.Units.UnitsOf.{symbol_bits}
 use Rattle.dep_graph.specs.HeaderBits.{weighed}
 use Rattle.unroll_bound.specs.ProgramBounds.{BoundsHold}
@@ -34,7 +34,7 @@ bits_law (suc bits) limit size bound h e =
     let q : limit / suc bits ≡ bound = cc in
     subst (λ n. size ≤ n) q (quotient_law size bits limit (omega (arith, h)))
 
-most_law : (most by : ℤ) (size bound : ℕ) → (pos size *ℤ by) ≤ℤ most → most_of most by ≡ Some bound → size ≤ bound
+most_law : (most by : ℤ) (size bound : ℕ) → (pos size *ℤ by) ≤ℤ most → most_times most by ≡ Some bound → size ≤ bound
 most_law most (negsuc by) size bound h e = absurd (cc e)
 most_law most (pos zero) size bound h e = absurd (cc e)
 most_law (pos most) (pos (suc by)) size bound h e =
@@ -45,7 +45,7 @@ most_law (negsuc most) (pos (suc by)) size bound h e = absurd (omega (arith, int
 row_law : (row : Linear) (sizes : List ℕ) (place bound : ℕ) → RowHolds sizes row → row_bound place row ≡ Some bound → get_or sizes place 0 ≤ bound
 row_law row sizes place bound holds = by (list_all is_whole row.by) refl
   where
-    by : (whole : Bool) → list_all is_whole row.by ≡ whole → (if whole then most_of row.most (get_or row.by place (pos 0)) else None) ≡ Some bound → get_or sizes place 0 ≤ bound
+    by : (whole : Bool) → list_all is_whole row.by ≡ whole → (if whole then most_times row.most (get_or row.by place (pos 0)) else None) ≡ Some bound → get_or sizes place 0 ≤ bound
     by true whole e = most_law row.most (get_or row.by place (pos 0)) (get_or sizes place 0) bound (let one = row_bounds_one row.by sizes place whole in omega (arith, ints, one, holds)) e
     by false whole e = absurd (cc e)
 

@@ -12,15 +12,15 @@ lesser (Some bound) None = Some bound
 lesser (Some bound) (Some other) = Some (min bound other)
 
 -- the greatest size of which this many times are at most a number, and 0 where that number is negative
-abbrev pub most_of : ℤ → ℤ → Option ℕ
-most_of most (negsuc by) = None
-most_of most (pos zero) = None
-most_of (pos most) (pos (suc by)) = Some (most / suc by)
-most_of (negsuc most) (pos (suc by)) = Some 0
+abbrev pub most_times : ℤ → ℤ → Option ℕ
+most_times most (negsuc by) = None
+most_times most (pos zero) = None
+most_times (pos most) (pos (suc by)) = Some (most / suc by)
+most_times (negsuc most) (pos (suc by)) = Some 0
 
 -- what a row says of the symbol at a place: nothing where one of its coefficients is negative
 abbrev pub row_bound : ℕ → Linear → Option ℕ
-row_bound place row = if list_all is_whole row.by then most_of row.most (slice_index_or row.by place (pos 0)) else None
+row_bound place row = if list_all is_whole row.by then most_times row.most (slice_index_or row.by place (pos 0)) else None
 
 -- the least number that one of the rows gives
 abbrev pub rows_bound : ℕ → List Linear → Option ℕ

@@ -13,13 +13,13 @@ use Rattle.unroll_bound.specs.declared.header.HeaderUse.{HeaderUse}
 abbrev pub capped : ℕ → ℕ
 capped bits = min bits (2 ^ 64 - 1)
 
-abbrev pub width_at : ℕ → ℕ → Option ℕ → ℕ
-width_at width place None = 0
-width_at width place (Some other) = if nat_eq other place then width else 0
+abbrev pub width_for : ℕ → ℕ → Option ℕ → ℕ
+width_for width place None = 0
+width_for width place (Some other) = if nat_eq other place then width else 0
 
 -- the bits of a field that one more of the symbol at a place takes
 abbrev pub element_bits : List Name → ℕ → Field → ℕ
-element_bits symbols place field = width_at field.width place (option_and_then (place_of symbols) field.size)
+element_bits symbols place field = width_for field.width place (option_and_then (place_of symbols) field.size)
 
 -- the bits that were counted have grown by those of fields
 pub record AddsFields (symbols : List Name) (old new : HeaderUse) (fields : List Field) : Type 0 where

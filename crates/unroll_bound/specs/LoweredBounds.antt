@@ -1,7 +1,7 @@
 -- How bounds are lowered row by row, and what the last of them say; this project's own.
 use Rattle.std.specs.Prelude.{◌≡◌, ℕ, ◌<◌, List, length, slice_index, slice_index_or, Option, Some, None, IsSome, ℤ, pos}
 use Rattle.elastic_ast.specs.declared.flat.Terms.{Terms}
-use Rattle.unroll_bound.specs.Bound.{lesser, most_of, bits_bound, bound_at}
+use Rattle.unroll_bound.specs.Bound.{lesser, most_times, bits_bound, bound_at}
 use Rattle.unroll_bound.specs.declared.bounds.Bounds.{Bounds}
 use Rattle.unroll_bound.specs.declared.header.HeaderUse.{HeaderUse}
 use Rattle.unroll_bound.specs.declared.bounds.Bounds.TheVariants as bounds
@@ -18,7 +18,7 @@ AreBounds symbols bound (bounds.Missing symbol) = (symbol < symbols) × (bound s
 
 -- what the coefficient at a place lets a size be, where the row is at most a number
 abbrev pub most_of_place : ℤ → List ℤ → ℕ → Option ℕ
-most_of_place most by place = most_of most (slice_index_or by place (pos 0))
+most_of_place most by place = most_times most (slice_index_or by place (pos 0))
 
 -- what the header bits say of each symbol
 pub record AreBitsBounds (limit : ℕ) (bits : List ℕ) (found : List (Option ℕ)) : Type 0 where

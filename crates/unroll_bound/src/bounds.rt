@@ -3,7 +3,7 @@
 ghost use Rattle.std.specs.Prelude.{◌≡◌, ◌≤◌, ◌<◌, ◌-◌, length, All, IfOk, Some, None, unsigned_abs};
 ghost use Rattle.std.specs.List.{list_all};
 ghost use Rattle.size_terms.specs.Rows.{is_whole as is_whole_of, IsShort, AreShort};
-ghost use Rattle.unroll_bound.specs.Bound.{lesser as lesser_of, most_of, row_bound, rows_bound, bits_bound as bits_bound_of};
+ghost use Rattle.unroll_bound.specs.Bound.{lesser as lesser_of, most_times, row_bound, rows_bound, bits_bound as bits_bound_of};
 ghost use Rattle.unroll_bound.specs.LoweredBounds.{AreLowered, AreBitsBounds, AreGathered, AreTermBounds, most_of_place};
 ghost use Rattle.unroll_bound.specs.ProgramBounds.{BoundsHold};
 ghost use Rattle.size_terms.specs.SumLimits.{most_right_side};
@@ -38,7 +38,7 @@ fn lesser(bound: Option<u64>, other: Option<u64>) -> Option<u64>
 /// The greatest size of which `by` times are at most a number, and 0 where that number is negative.
 fn most_at(most: i128, by: i128) -> Option<u64>
     requires { unsigned_abs most ≤ most_right_side }
-    ensures { result ≡ most_of most by }
+    ensures { result ≡ most_times most by }
 {
     if by <= 0 {
         None

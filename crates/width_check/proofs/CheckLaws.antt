@@ -105,19 +105,12 @@ supported_step ds i d whole h e supported inv = ap (λ b. b && list_all is_suppo
 
 -- the forms that are taken so far are no parts of a pipeline
 supported_part : (d : PlainDecl) → is_supported d ≡ true → is_no_part d ≡ true
-supported_part (PlainDecl.Include n) h = refl
-supported_part (PlainDecl.Symbol n) h = refl
-supported_part (PlainDecl.Assume cs) h = refl
-supported_part (PlainDecl.Maximize ts) h = refl
-supported_part (PlainDecl.Const n w v) h = refl
-supported_part (PlainDecl.Header n fs) h = refl
-supported_part (PlainDecl.Headers ms) h = refl
-supported_part (PlainDecl.Meta fs) h = refl
 supported_part (PlainDecl.Register n w c s) h = h
 supported_part (PlainDecl.Parser n ss) h = h
 supported_part (PlainDecl.Control n ls b) h = h
 supported_part (PlainDecl.Deparser n es) h = h
 supported_part (PlainDecl.Main p c d) h = h
+supported_part other h = refl
 
 both_true : (a b c d : Bool) → (a ≡ true → c ≡ true) → (b ≡ true → d ≡ true) → (a && b) ≡ true → (c && d) ≡ true
 both_true true b c d p q h = ap (λ z. z && d) (p refl) ∙ q h

@@ -1,6 +1,6 @@
 -- The table of a scope has the names of its declarations, each once, so a look-up finds the one declaration of a name.
 use Rattle.std.proofs.lemmas.Bool.{and_from, and_parts, not-true, or_left, or_from, or_right, or_parts}
-use Rattle.std.proofs.lemmas.List.{append-nil}
+use Rattle.std.proofs.lemmas.List.{append-nil, drop_more}
 use Rattle.std.proofs.Common.{◌≡◌, ℕ, zero, suc, ◌+◌, ◌<◌, Bool, true, false, not, cond, ◌||◌, List, [], ◌∷◌, ◌++◌, map, take, drop, length, get_or, Option, Some, None, refl, sym, ap, subst, ◌∙◌, true≢false, arith, add-one, append_assoc, is_some}
 use Rattle.std.specs.Prelude.{if◌then◌else◌, nat_eq, option_map, option_and_then}
 use Rattle.std.specs.Map.{lookup}
@@ -16,15 +16,14 @@ use Rattle.elastic_ast.specs.Typing.Scope.{same, among, or_else, found, symbol_o
 use Rattle.elastic_ast.specs.Typing.Demand.{Fresh, Plain, met, rule_of, first_broken, fixed_names}
 use Rattle.elastic_ast.specs.Typing.AskedOfNames.{asks_names, top_name, top_names}
 use Rattle.elastic_ast.specs.Typing.Asked.{DeclKind, is_of_kind, has}
+use Rattle.elastic_ast.proofs.Typing.TypedLaws.{if_none}
 use Rattle.width_check.specs.Table.{names_in, IsRefusal}
 use Rattle.width_check.specs.declared.table.Refusal.{Refusal}
-use Rattle.width_check.specs.Scoped.{entries_seen, with_decl, names_with, named, are_new, are_distinct, before_of, next_names, name_broken}
+use Rattle.width_check.specs.Scoped.{entries_seen, with_decl, names_with, named_decls, are_new, are_distinct, before_of, next_names, name_broken}
 
 -- one step through the declarations
-drop_suc : (ds : List Decl) (i : ℕ) (d : Decl) → i < length ds → d ≡ get_or ds i d → drop i ds ≡ d ∷ drop (suc i) ds
-drop_suc [] i d h e = absurd (omega arith)
-drop_suc (x ∷ ds) zero d h e = ap (λ z. z ∷ ds) (sym e)
-drop_suc (x ∷ ds) (suc i) d h e = drop_suc ds i d (omega arith) e
+pub drop_suc : {A : Type 0} (xs : List A) (i : ℕ) (x : A) → i < length xs → x ≡ get_or xs i x → drop i xs ≡ x ∷ drop (i + 1) xs
+drop_suc xs i x h e = drop_more xs i x h ∙ ap (λ z. z ∷ drop (i + 1) xs) (sym e)
 
 take_suc : (ds : List Decl) (i : ℕ) (d : Decl) → i < length ds → d ≡ get_or ds i d → seen_decls (take (suc i) ds) ≡ seen_decls (take i ds) ++ seen_decl d ∷ []
 take_suc [] i d h e = absurd (omega arith)
@@ -51,22 +50,18 @@ unfolding first_name
 names_paired d [] rest = refl
 names_paired d (n ∷ ns) rest = ap (λ z. n ∷ z) (names_paired d ns rest)
 
-names_named : (ds : List PlainDecl) → map first_name (named ds) ≡ top_names ds
+names_named : (ds : List PlainDecl) → map first_name (named_decls ds) ≡ top_names ds
 names_named [] = refl
-names_named (d ∷ ds) = names_paired d (top_name d) (named ds) ∙ ap (λ z. top_name d ++ z) (names_named ds)
+names_named (d ∷ ds) = names_paired d (top_name d) (named_decls ds) ∙ ap (λ z. top_name d ++ z) (names_named ds)
 
-pub names_of_table : (es : List (Bor (List ℕ) × Bor Decl)) (ds : List PlainDecl) → entries_seen es ≡ named ds → names_in es ≡ top_names ds
+pub names_of_table : (es : List (Bor (List ℕ) × Bor Decl)) (ds : List PlainDecl) → entries_seen es ≡ named_decls ds → names_in es ≡ top_names ds
 names_of_table es ds h = names_seen es ∙ ap (map first_name) h ∙ names_named ds
 
-pub table_step : (ds : List PlainDecl) (x : PlainDecl) (old new : List (Name × PlainDecl)) → new ≡ old ++ names_with x → old ≡ named ds → new ≡ named (ds ++ x ∷ [])
+pub table_step : (ds : List PlainDecl) (x : PlainDecl) (old new : List (Name × PlainDecl)) → new ≡ old ++ names_with x → old ≡ named_decls ds → new ≡ named_decls (ds ++ x ∷ [])
 table_step ds x old new a h =
-    a ∙ ap (λ z. z ++ names_with x) h ∙ ap (λ z. named ds ++ z) (sym (append-nil (names_with x))) ∙ sym (flat_map-append names_with ds (x ∷ []))
+    a ∙ ap (λ z. z ++ names_with x) h ∙ ap (λ z. named_decls ds ++ z) (sym (append-nil (names_with x))) ∙ sym (flat_map-append names_with ds (x ∷ []))
 
 -- names that may be declared are new
-if_none : {A : Type 0} (b : Bool) (x : A) (o : Option A) → (if b then o else Some x) ≡ None → (b ≡ true) × (o ≡ None)
-if_none true x o h = (refl, h)
-if_none false x o h = cc
-
 new_names : (allow : Bool) (before ns : List Name) → first_broken allow (asks_names before ns) ≡ None → are_new before ns ≡ true
 new_names allow before [] h = refl
 new_names allow before (n ∷ ns) h =
@@ -132,18 +127,18 @@ module _ {B : Type 0} (n : Name) (pick : PlainDecl → Option B) (quiet : (x : P
       by true ih = refl
       by false ih = ih
 
-  found_named : (before : List Name) (ds : List PlainDecl) → are_new before (top_names ds) ≡ true → found pick ds ≡ option_and_then pick (lookup (same n) (named ds))
+  found_named : (before : List Name) (ds : List PlainDecl) → are_new before (top_names ds) ≡ true → found pick ds ≡ option_and_then pick (lookup (same n) (named_decls ds))
   found_named before [] p = refl
   found_named before (d ∷ ds) p = by (among (top_name d) n) refl (found_named (before ++ top_name d) ds (new_after before (top_name d) (top_names ds) p))
     where
-      by : (b : Bool) → among (top_name d) n ≡ b → found pick ds ≡ option_and_then pick (lookup (same n) (named ds)) → or_else (pick d) (found pick ds) ≡ option_and_then pick (lookup (same n) (named (d ∷ ds)))
+      by : (b : Bool) → among (top_name d) n ≡ b → found pick ds ≡ option_and_then pick (lookup (same n) (named_decls ds)) → or_else (pick d) (found pick ds) ≡ option_and_then pick (lookup (same n) (named_decls (d ∷ ds)))
       by true e ih =
           ap (λ z. or_else (pick d) z)
           (nothing_left ds (not_among n (before ++ top_name d) (top_names ds) (new_after before (top_name d) (top_names ds) p) (among-append n before (top_name d) ∙ or_right (among before n) (among (top_name d) n) e)))
-          ∙ or_none (pick d) ∙ sym (ap (option_and_then pick) (lookup_names d (top_name d) (named ds) ∙ ap (λ b. cond b (Some d) (lookup (same n) (named ds))) e))
+          ∙ or_none (pick d) ∙ sym (ap (option_and_then pick) (lookup_names d (top_name d) (named_decls ds) ∙ ap (λ b. cond b (Some d) (lookup (same n) (named_decls ds))) e))
       by false e ih =
           ap (λ z. or_else z (found pick ds)) (quiet d e) ∙ ih
-          ∙ sym (ap (option_and_then pick) (lookup_names d (top_name d) (named ds) ∙ ap (λ b. cond b (Some d) (lookup (same n) (named ds))) e))
+          ∙ sym (ap (option_and_then pick) (lookup_names d (top_name d) (named_decls ds) ∙ ap (λ b. cond b (Some d) (lookup (same n) (named_decls ds))) e))
 
 quiet_symbol : (n : Name) (x : PlainDecl) → among (top_name x) n ≡ false → symbol_of n x ≡ None
 quiet_symbol n (PlainDecl.Symbol m) h = ap (λ b. if b then Some m else None) ((or_parts (same n m) false h).0)
@@ -160,7 +155,7 @@ seen_lookup n (e ∷ es) = by (same n e.0.now) (seen_lookup n es)
 
 -- a symbol of the scope is what stands under its name in the table
 pub symbol_found : (n m : Name) (es : List (Bor (List ℕ) × Bor Decl)) (inside place : List Decl × ℕ) (o : Option (Bor Decl)) → m ≡ n → o ≡ lookup (λ k. pointwise nat_eq m k.now) es
-    → entries_seen es ≡ named (before_of inside) → are_distinct (top_names (before_of inside)) ≡ true → inside ≡ place
+    → entries_seen es ≡ named_decls (before_of inside) → are_distinct (top_names (before_of inside)) ≡ true → inside ≡ place
     → is_some (option_and_then (symbol_of n) (option_map (λ d. seen_decl d.now) o)) ≡ is_symbol (before_of place) n
 symbol_found n m es inside place o a b h p e =
     ap (λ z. is_some (option_and_then (symbol_of n) (option_map (λ d. seen_decl d.now) z))) (b ∙ ap (λ t. lookup (λ k. pointwise nat_eq t k.now) es) a)
@@ -168,7 +163,7 @@ symbol_found n m es inside place o a b h p e =
     ∙ ap (λ z. is_symbol (before_of z) n) e
 
 -- the rule that the next name breaks, by the table
-pub next_broken : (allow : Bool) (inside place : List Decl × ℕ) (d : Decl) (es : List (Bor (List ℕ) × Bor Decl)) → entries_seen es ≡ named (before_of inside) → inside.1 < length inside.0 → d ≡ get_or inside.0 inside.1 d → inside ≡ place
+pub next_broken : (allow : Bool) (inside place : List Decl × ℕ) (d : Decl) (es : List (Bor (List ℕ) × Bor Decl)) → entries_seen es ≡ named_decls (before_of inside) → inside.1 < length inside.0 → d ≡ get_or inside.0 inside.1 d → inside ≡ place
     → first_broken allow (asks_names (names_in es) (top_name (seen_decl d))) ≡ name_broken allow place
 next_broken allow inside place d es h less e p =
     ap (λ z. first_broken allow (asks_names z (top_name (seen_decl d)))) (names_of_table es (before_of inside) h)

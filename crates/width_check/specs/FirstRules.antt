@@ -15,8 +15,8 @@ use Rattle.width_check.specs.Table.{IsRefusal, names_in}
 use Rattle.width_check.specs.Scoped.{before_of, entries_seen, names_with}
 
 -- nothing is broken where the answer is no refusal
-abbrev pub Passes : {A T : Type 0} → Option A → Result T Refusal → Type 0
-Passes broken result = OnOk result (broken ≡ None)
+abbrev pub PassesOn : {A T : Type 0} → Option A → Result T Refusal → Type 0
+PassesOn broken result = OnOk result (broken ≡ None)
 
 -- what a refusal says, where there is one
 abbrev pub RefusedBy : {T : Type 0} → Option Rule → Result T Refusal → Type 0

@@ -27,11 +27,11 @@ next_names (decl ∷ decls) = top_name (seen_decl decl)
 abbrev pub name_broken : Bool → List Decl × ℕ → Option Rule
 name_broken allow place = first_broken allow (asks_names (top_names (before_of place)) (next_names (drop place.1 place.0)))
 
-abbrev pub entry_seen : Bor (List ℕ) × Bor Decl → Name × PlainDecl
-entry_seen entry = (entry.0.now, seen_decl entry.1.now)
+abbrev pub scope_entry : Bor (List ℕ) × Bor Decl → Name × PlainDecl
+scope_entry entry = (entry.0.now, seen_decl entry.1.now)
 
 abbrev pub entries_seen : List (Bor (List ℕ) × Bor Decl) → List (Name × PlainDecl)
-entries_seen = map entry_seen
+entries_seen = map scope_entry
 
 abbrev pub with_decl : PlainDecl → Name → Name × PlainDecl
 with_decl decl name = (name, decl)
@@ -40,8 +40,8 @@ abbrev pub names_with : PlainDecl → List (Name × PlainDecl)
 names_with decl = map (with_decl decl) (top_name decl)
 
 -- each declared name, with its declaration
-abbrev pub named : List PlainDecl → List (Name × PlainDecl)
-named = flat_map names_with
+abbrev pub named_decls : List PlainDecl → List (Name × PlainDecl)
+named_decls = flat_map names_with
 
 -- no name is among the given ones or stands twice
 abbrev pub are_new : List Name → List Name → Bool
@@ -53,7 +53,7 @@ are_distinct names = are_new [] names
 
 -- what a scope knows of the declarations before its place
 pub record HasNames (place : List Decl × ℕ) (has_utility has_metadata : Bool) (entries : List (Bor (List ℕ) × Bor Decl)) : Type 0 where
-  pub names : entries_seen entries ≡ named (before_of place)
+  pub names : entries_seen entries ≡ named_decls (before_of place)
   pub distinct : are_distinct (top_names (before_of place)) ≡ true
   pub utility : has_utility ≡ has DeclKind.Utility (before_of place)
   pub metadata : has_metadata ≡ has DeclKind.Metadata (before_of place)

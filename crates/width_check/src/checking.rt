@@ -4,7 +4,7 @@ ghost use Rattle.std.specs.Prelude.{◌≡◌, ◌≤◌, ◌<◌, ◌+◌, leng
 ghost use Rattle.std.specs.List.{list_all};
 ghost use Rattle.elastic_ast.specs.Seen.{seen_decl, seen_decls, seen_program};
 ghost use Rattle.elastic_ast.specs.Typing.Typed.{Typed};
-ghost use Rattle.width_check.specs.FirstRules.{RefusedBy, Passes, next_breaks, list_breaks};
+ghost use Rattle.width_check.specs.FirstRules.{RefusedBy, PassesOn, next_breaks, list_breaks};
 ghost use Rattle.width_check.specs.Sound.{IsSound};
 ghost use Rattle.width_check.specs.Broken.{IsBroken, IsFirst, most_declarations};
 ghost use Rattle.width_check.specs.Supported.{is_supported as is_supported_of, is_linear as is_linear_of};
@@ -94,7 +94,7 @@ fn check_next<'a>(
     requires here { slice_get scope.old.0 scope.old.1 ≡ Some decl.now }
     requires supported { is_supported_of (seen_decl decl.now) ≡ true }
     ensures passed { OnOk result (scope.new ≡ (scope.old.0, scope.old.1 + 1)) }
-    ensures fine { Passes (next_breaks allow_reserved scope.old decl.now) result }
+    ensures fine { PassesOn (next_breaks allow_reserved scope.old decl.now) result }
     ensures refused { RefusedBy (next_breaks allow_reserved scope.old decl.now) result }
 {
     let first = scope.is_first(decl);

@@ -5,7 +5,7 @@ ghost use Rattle.elastic_ast.specs.Seen.{seen_decl};
 ghost use Rattle.elastic_ast.specs.Typing.Scope.{or_else};
 ghost use Rattle.elastic_ast.specs.Typing.Demand.{first_broken};
 ghost use Rattle.elastic_ast.specs.Typing.Asked.{asks_term, asks_comp, asks_util, asks_field};
-ghost use Rattle.width_check.specs.FirstRules.{RefusedBy, each_breaks, field_names_break, fields_break, inside_breaks, Passes, symbol_breaks};
+ghost use Rattle.width_check.specs.FirstRules.{RefusedBy, each_breaks, field_names_break, fields_break, inside_breaks, PassesOn, symbol_breaks};
 ghost use Rattle.width_check.specs.Scoped.{before_of};
 ghost use Rattle.width_check.specs.Supported.{is_supported, is_linear};
 ghost use Rattle.std.specs.List.{list_all};
@@ -175,7 +175,7 @@ fn check_metadata(
     scope: &Scope<'_>,
     fields: &[Field],
 ) -> Result<(), Refusal>
-    ensures fine { Passes (fields_break allow_reserved scope.now fields.now) result }
+    ensures fine { PassesOn (fields_break allow_reserved scope.now fields.now) result }
     ensures refused { RefusedBy (fields_break allow_reserved scope.now fields.now) result }
 {
     match check_field_names(alloc, allow_reserved, fields) {
@@ -192,7 +192,7 @@ pub fn check_declaration(
     decl: &Decl,
 ) -> Result<(), Refusal>
     requires { is_supported (seen_decl decl.now) ≡ true }
-    ensures fine { Passes (inside_breaks allow_reserved scope.now decl.now) result }
+    ensures fine { PassesOn (inside_breaks allow_reserved scope.now decl.now) result }
     ensures refused { RefusedBy (inside_breaks allow_reserved scope.now decl.now) result }
 {
     match decl {

@@ -6,7 +6,7 @@ ghost use Rattle.elastic_ast.specs.Seen.{seen_decl};
 ghost use Rattle.elastic_ast.specs.Typing.Scope.{is_symbol as is_symbol_of, symbol_of};
 ghost use Rattle.elastic_ast.specs.Typing.AskedOfNames.{top_name};
 ghost use Rattle.elastic_ast.specs.Typing.Asked.{DeclKind, is_of_kind, is_first as is_first_of};
-ghost use Rattle.width_check.specs.FirstRules.{IsDeclared, RefusedBy, declared_breaks, Passes};
+ghost use Rattle.width_check.specs.FirstRules.{IsDeclared, RefusedBy, declared_breaks, PassesOn};
 ghost use Rattle.width_check.specs.Supported.{is_supported};
 ghost use Rattle.width_check.specs.Scoped.{option_list, before_of, name_broken};
 
@@ -104,7 +104,7 @@ fn declare<'a>(
     allow_reserved: bool,
 ) -> Result<(), Refusal>
     ensures added { OnOk result (IsDeclared names.old.entries names.new.entries decl.now) }
-    ensures fresh { Passes (declared_breaks allow_reserved names.old.entries decl.now) result }
+    ensures fresh { PassesOn (declared_breaks allow_reserved names.old.entries decl.now) result }
     ensures refused { RefusedBy (declared_breaks allow_reserved names.old.entries decl.now) result }
     ensures kept { OnErr result (names.new.entries ≡ names.old.entries) }
 {

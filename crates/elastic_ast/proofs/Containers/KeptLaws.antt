@@ -7,7 +7,7 @@ use Rattle.elastic_ast.specs.declared.registers.Held.{Held}
 use Rattle.elastic_ast.specs.Containers.KeyHash.{hash_of}
 use Rattle.elastic_ast.specs.Containers.RegisterLists.{Register, Key, same_key, register_key, keys, register_at}
 use Rattle.elastic_ast.specs.Containers.KeptRegisters.{Kept, IsRegister, seen_register, registers_of}
-use Rattle.elastic_ast.proofs.Containers.ChainWalk.{HaveHash, Walk}
+use Rattle.elastic_ast.specs.Containers.LastWith.{IsPassing, Passes, AllFail}
 use Rattle.elastic_ast.proofs.Containers.KeyLaws.{same_is, not_same}
 use Rattle.elastic_ast.proofs.Containers.PositionLaws.{position_is, position_none}
 
@@ -25,7 +25,7 @@ pub length_hashes : (hs : List ℕ) (rs : List Register) → Kept hs rs → leng
 length_hashes hs rs kept = ap length kept.hashed ∙ length-map (keys rs) hash_of ∙ length-keys rs
 
 -- the place of a key has its hash
-pub have_hash : (hs : List ℕ) (rs : List Register) (key : Key) → Kept hs rs → HaveHash hs (hash_of key) (has_key (keys rs) key)
+have_hash : (hs : List ℕ) (rs : List Register) (key : Key) → Kept hs rs → (k : ℕ) → k < length hs → has_key (keys rs) key k ≡ true → get_or hs k 0 ≡ hash_of key
 unfolding has_key
 have_hash hs rs key kept k lt t =
     let within : k < length (keys rs) = omega (arith, length_hashes hs rs kept, length-keys rs) in
@@ -50,7 +50,7 @@ found_at hs rs name index place kept lt t =
     (λ e. let twice : k ≡ place = kept.distinct k place no_key (omega arith) within (sym e ∙ same) in absurd (omega arith)))
 
 -- no place has them
-pub not_found : (rs : List Register) (name : List ℕ) (index : Option ℕ) → ((k : ℕ) → k < length rs → has_key (keys rs) (name, index) k ≡ false) → register_at rs name index ≡ None
+not_found : (rs : List Register) (name : List ℕ) (index : Option ℕ) → ((k : ℕ) → k < length rs → has_key (keys rs) (name, index) k ≡ false) → register_at rs name index ≡ None
 unfolding has_key register_at
 not_found rs name index never =
     position_none (same_key (name, index)) (keys rs) no_key (λ k lt. never k (omega (arith, length-keys rs)))
@@ -69,12 +69,22 @@ read_key list key place held t lt e is = has_key-at (registers_of list) key plac
 pub in_list : (hs : List ℕ) (list : List Held) (place : ℕ) → Kept hs (registers_of list) → place < length hs → place < length list
 in_list hs list place kept lt = omega (arith, length_hashes hs (registers_of list) kept, length_registers list)
 
--- where the way ends, nothing has the key
-pub nothing_left : (hs : List ℕ) (rs : List Register) (name : List ℕ) (index : Option ℕ) (hash : ℕ) → Kept hs rs → Walk hs hash (has_key (keys rs) (name, index)) None → register_at rs name index ≡ None
-nothing_left hs rs name index hash kept w = not_found rs name index (λ k lt. by k lt (has_key (keys rs) (name, index) k) refl)
+-- the place that a search by the hash gives is that of the key
+pub found_by_hash : {Test : ℕ → Bool → Type 0} (hs : List ℕ) (list : List Held) (name : List ℕ) (index : Option ℕ) (o : Option ℕ) → Kept hs (registers_of list) → IsPassing Test hs (hash_of (name, index)) o
+    → ((place : ℕ) (t : Bool) → place < length list → Test place t → (held : Held) × (held ≡ get_or list place held) × (r : Bool) × (r ≡ same_key (name, index) (register_key (seen_register held))) × (t ≡ r))
+    → o ≡ register_at (registers_of list) name index
+found_by_hash hs list name index o kept (Passes place less passes) tells =
+    let within = in_list hs list place kept less in
+    let told = tells place true within passes in
+    sym (found_at hs (registers_of list) name index place kept (omega (arith, within, length_registers list)) (read_key list (name, index) place told.0 true within told.1 (told.4 ∙ told.3)))
+found_by_hash hs list name index o kept (AllFail fails) tells = sym (not_found (registers_of list) name index (λ k lt. by k lt (has_key (keys (registers_of list)) (name, index) k) refl))
   where
-    by : (k : ℕ) → k < length rs → (t : Bool) → has_key (keys rs) (name, index) k ≡ t → t ≡ false
-    by k lt true e = let a = w.above k (omega (arith, length_hashes hs rs kept)) e in let no : None ≡ Some a.0 = a.1 in cc
+    by : (k : ℕ) → k < length (registers_of list) → (t : Bool) → has_key (keys (registers_of list)) (name, index) k ≡ t → t ≡ false
+    by k lt true e =
+        let inside : k < length hs = omega (arith, length_hashes hs (registers_of list) kept) in
+        let within = in_list hs list k kept inside in
+        let told = tells k false within (fails k inside (have_hash hs (registers_of list) (name, index) kept k inside e)) in
+        sym e ∙ read_key list (name, index) k told.0 false within told.1 (told.4 ∙ told.3)
     by k lt false e = refl
 
 -- the facts of the register that was read at a place

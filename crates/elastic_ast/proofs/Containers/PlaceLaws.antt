@@ -30,31 +30,14 @@ pub place_tells : PlacesTell
 place_tells (Header h f) (Header k g) i j e =
     let n : length h ≡ length k = cc in
     let both : h ++ f ≡ k ++ g = cc in
-    let code : index_code i ≡ index_code j = cc in
     let one = same_first h k f g n both in
     let two = same_second h k f g n both in
-    (cc, same_index i j code)
-place_tells (Valid h) (Valid k) i j e =
-    let code : index_code i ≡ index_code j = cc in
-    (cc, same_index i j code)
-place_tells (Meta h o) (Meta k p) i j e =
-    let code : index_code i ≡ index_code j = cc in
-    let flags : flag_code o ≡ flag_code p = cc in
-    let own = same_flag o p flags in
-    (cc, same_index i j code)
-place_tells (Std h) (Std k) i j e =
-    let code : index_code i ≡ index_code j = cc in
-    (cc, same_index i j code)
-place_tells (Pred m o) (Pred n p) i j e =
-    let code : index_code i ≡ index_code j = cc in
-    let flags : flag_code o ≡ flag_code p = cc in
-    let own = same_flag o p flags in
-    (cc, same_index i j code)
-place_tells (Reg h o) (Reg k p) i j e =
-    let code : index_code i ≡ index_code j = cc in
-    let flags : flag_code o ≡ flag_code p = cc in
-    let own = same_flag o p flags in
-    (cc, same_index i j code)
+    (cc, same_index i j cc)
+place_tells (Valid h) (Valid k) i j e = (cc, same_index i j cc)
+place_tells (Meta h o) (Meta k p) i j e = let own = same_flag o p cc in (cc, same_index i j cc)
+place_tells (Std h) (Std k) i j e = (cc, same_index i j cc)
+place_tells (Pred m o) (Pred n p) i j e = let own = same_flag o p cc in (cc, same_index i j cc)
+place_tells (Reg h o) (Reg k p) i j e = let own = same_flag o p cc in (cc, same_index i j cc)
 place_tells a b i j e = cc
 
 pub same_place : (parts a b : Location) (i j : Option ℕ) → i ≡ j → parts ≡ a → parts ≡ b → place a i ≡ place b j

@@ -3,7 +3,7 @@ use Rattle.std.proofs.Common.{◌≡◌, ◌≢◌, ◌<◌, ◌≤◌, ℕ, zer
 use Rattle.std.specs.Prelude.{slice_get, slice_set, option_map}
 use Rattle.std.proofs.lemmas.Option.{slice_get_past, slice_get-get_or}
 use Rattle.std.proofs.lemmas.Bool.{eq-eqb, eqb-true}
-use Rattle.elx_bits.specs.Words.{Word}
+use Rattle.elx_bits.specs.Words.{BitWord}
 use Rattle.elastic_ast.specs.Containers.RegisterLists.{Register, keys, width_of, values_of, cell_at, with_cell, stored, is_of_width}
 
 -- lists of values
@@ -40,11 +40,11 @@ unfolding cell_at
 cell_at-within rs place cell r past at lt = rw (at, slice_get-get_or (values_of r) cell past lt)
 
 -- the cell that was written
-read_stored : (w v : ℕ) (o : Option ℕ) → option_map (λ value. let x : Word = (w, value) in x) (option_map (λ _. v) o) ≡ option_map (λ word. let x : Word = (word.0, v) in x) (option_map (λ value. let x : Word = (w, value) in x) o)
+read_stored : (w v : ℕ) (o : Option ℕ) → option_map (λ value. let x : BitWord = (w, value) in x) (option_map (λ _. v) o) ≡ option_map (λ word. let x : BitWord = (word.0, v) in x) (option_map (λ value. let x : BitWord = (w, value) in x) o)
 read_stored w v None = refl
 read_stored w v (Some x) = refl
 
-pub read_same : (rs : List Register) (place cell value : ℕ) → cell_at (with_cell rs place cell value) place cell ≡ option_map (λ word. let x : Word = (word.0, value) in x) (cell_at rs place cell)
+pub read_same : (rs : List Register) (place cell value : ℕ) → cell_at (with_cell rs place cell value) place cell ≡ option_map (λ word. let x : BitWord = (word.0, value) in x) (cell_at rs place cell)
 unfolding cell_at with_cell
 read_same [] place cell value = refl
 read_same (r ∷ rs) zero cell value = rw (slice_get-set_same (values_of r) cell value) (read_stored (width_of r) value (slice_get (values_of r) cell))
@@ -96,6 +96,6 @@ other_width rs place cell width r at other = rw at (by (slice_get (values_of r) 
     differs true e = absurd (other (eqb-true (width_of r) width e))
     differs false e = refl
 
-    by : (o : Option ℕ) → is_of_width (option_map (λ value. let x : Word = (width_of r, value) in x) o) width ≡ false
+    by : (o : Option ℕ) → is_of_width (option_map (λ value. let x : BitWord = (width_of r, value) in x) o) width ≡ false
     by None = refl
     by (Some value) = differs (width_of r == width) refl

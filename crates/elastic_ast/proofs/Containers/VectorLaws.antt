@@ -4,9 +4,9 @@ use Rattle.std.specs.FinMap.{get, contains_key, insert, get-empty, get-insert, g
 use Rattle.std.specs.Ordering.{nat_cmp}
 use Rattle.std.specs.Cmp.Lexicographic.{slice_cmp, nat_list_cmp_total}
 use Rattle.std.proofs.lemmas.List.{map_push}
-use Rattle.elx_bits.specs.Words.{Word}
+use Rattle.elx_bits.specs.Words.{BitWord}
 use Rattle.elastic_ast.specs.declared.flat.Location.{Location}
-use Rattle.elastic_ast.specs.declared.flat.Location.TheVariants.{Header, Valid, Meta, Std, Pred, Reg}
+use Rattle.elastic_ast.specs.declared.flat.Location.TheVariants.{Valid}
 use Rattle.elastic_ast.specs.declared.slot.Slot.{Slot}
 use Rattle.elastic_ast.specs.Containers.LocationPlaces.{place}
 use Rattle.elastic_ast.specs.Containers.Slots.{slot_place, entry, entries, places, seen_slots, place_hash, Apart, IsVector, Indexed}
@@ -15,26 +15,22 @@ use Rattle.elastic_ast.specs.Containers.BitWords.{word}
 use Rattle.elastic_ast.proofs.Containers.EntryLaws.{tied, same_tied, found_at, found_nowhere, mapped, mapped_set, mapped_push, places_set, apart_push}
 use Rattle.elastic_ast.proofs.Containers.SlotLaws.{length_entries, length_places, entry_here}
 
-pub stands : (at : Location) (index : Option ℕ) (w : Word) → MayStand at w.0 → slice_index (place at index) 0 ≡ 1 → w.0 ≡ 1
+pub stands : (at : Location) (index : Option ℕ) (w : BitWord) → MayStand at w.0 → slice_index (place at index) 0 ≡ 1 → w.0 ≡ 1
 stands (Valid header) index w m e = m
-stands (Header header field) index w m e = absurd (omega arith)
-stands (Meta name own) index w m e = absurd (omega arith)
-stands (Std name) index w m e = absurd (omega arith)
-stands (Pred number own) index w m e = absurd (omega arith)
-stands (Reg name own) index w m e = absurd (omega arith)
+stands other index w m e = absurd (omega arith)
 
-wide : (q p : List ℕ) (w : Word) (o : Option Word) (b : Bool) → tied q p ≡ b → IfSome o (λ x. x.0 ≡ 1) → slice_index q 0 ≡ 1 → (slice_index p 0 ≡ 1 → w.0 ≡ 1) → IfSome (cond b (Some w) o) (λ x. x.0 ≡ 1)
+wide : (q p : List ℕ) (w : BitWord) (o : Option BitWord) (b : Bool) → tied q p ≡ b → IfSome o (λ x. x.0 ≡ 1) → slice_index q 0 ≡ 1 → (slice_index p 0 ≡ 1 → w.0 ≡ 1) → IfSome (cond b (Some w) o) (λ x. x.0 ≡ 1)
 wide q p w o true t h e f = f (sym (ap (λ (x : List ℕ). slice_index x 0) (same_tied q p t)) ∙ e)
 wide q p w o false t h e f = h
 
-pub validity_insert : (m : Vectored) (p : List ℕ) (w : Word) → BitsOfValidity m → (slice_index p 0 ≡ 1 → w.0 ≡ 1) → BitsOfValidity (insert m p w)
+pub validity_insert : (m : Vectored) (p : List ℕ) (w : BitWord) → BitsOfValidity m → (slice_index p 0 ≡ 1 → w.0 ≡ 1) → BitsOfValidity (insert m p w)
 validity_insert m p w h f =
-    λ q e. subst (λ (o : Option Word). IfSome o (λ x. x.0 ≡ 1)) (sym (get-insert nat_list_cmp_total m p w q)) (wide q p w (get m q) _ refl (h q e) e f)
+    λ q e. subst (λ (o : Option BitWord). IfSome o (λ x. x.0 ≡ 1)) (sym (get-insert nat_list_cmp_total m p w q)) (wide q p w (get m q) _ refl (h q e) e f)
 
 pub empty_vector : (slots : List Slot) → slots ≡ [] → IsVector slots
 empty_vector slots e = subst IsVector (sym e) (record {
   apart = record { one = λ i j h k same. absurd (omega arith) };
-  validity = λ q _. subst (λ (o : Option Word). IfSome o (λ x. x.0 ≡ 1)) (sym (get-empty (slice_cmp nat_cmp) q)) tt;
+  validity = λ q _. subst (λ (o : Option BitWord). IfSome o (λ x. x.0 ≡ 1)) (sym (get-empty (slice_cmp nat_cmp) q)) tt;
 })
 
 pub seen_at : (slots : List Slot) (k : ℕ) (s : Slot) (p : List ℕ) → IsVector slots → k < length (places (entries slots)) → get_or (places (entries slots)) k [] ≡ p → s ≡ get_or slots k s → get (seen_slots slots) p ≡ Some (word s.value)
@@ -42,19 +38,19 @@ seen_at slots k s p v less at is =
     let below : k < length slots = omega (arith, length_places slots) in
     get-from_entries nat_list_cmp_total (entries slots) p
     ∙ found_at (entries slots) k p (entry s) v.apart (omega (arith, length_entries slots)) at
-    ∙ ap (λ (e : List ℕ × Word). Some e.1) (entry_here slots k s below is (entry s))
+    ∙ ap (λ (e : List ℕ × BitWord). Some e.1) (entry_here slots k s below is (entry s))
 
 pub seen_nowhere : (slots : List Slot) (p : List ℕ) → ((k : ℕ) → k < length (places (entries slots)) → get_or (places (entries slots)) k [] ≢ p) → get (seen_slots slots) p ≡ None
 seen_nowhere slots p h = get-from_entries nat_list_cmp_total (entries slots) p ∙ found_nowhere (entries slots) p h
 
 -- one slot is given another word
-pub changed_seen : (slots new : List Slot) (k : ℕ) (p : List ℕ) (w : Word) → IsVector slots → k < length (places (entries slots)) → get_or (places (entries slots)) k [] ≡ p → entries new ≡ set (entries slots) k (get_or (places (entries slots)) k [], w) → seen_slots new ≡ insert (seen_slots slots) p w
+pub changed_seen : (slots new : List Slot) (k : ℕ) (p : List ℕ) (w : BitWord) → IsVector slots → k < length (places (entries slots)) → get_or (places (entries slots)) k [] ≡ p → entries new ≡ set (entries slots) k (get_or (places (entries slots)) k [], w) → seen_slots new ≡ insert (seen_slots slots) p w
 changed_seen slots new k p w v less at written =
     ap mapped written
     ∙ ap (λ (q : List ℕ). mapped (set (entries slots) k (q, w))) at
     ∙ mapped_set (entries slots) k p w v.apart (omega (arith, length_entries slots, length_places slots)) at
 
-pub changed : (slots new : List Slot) (k : ℕ) (p : List ℕ) (w : Word) → IsVector slots → k < length (places (entries slots)) → get_or (places (entries slots)) k [] ≡ p → entries new ≡ set (entries slots) k (get_or (places (entries slots)) k [], w) → (slice_index p 0 ≡ 1 → w.0 ≡ 1) → IsVector new
+pub changed : (slots new : List Slot) (k : ℕ) (p : List ℕ) (w : BitWord) → IsVector slots → k < length (places (entries slots)) → get_or (places (entries slots)) k [] ≡ p → entries new ≡ set (entries slots) k (get_or (places (entries slots)) k [], w) → (slice_index p 0 ≡ 1 → w.0 ≡ 1) → IsVector new
 changed slots new k p w v less at written f = record {
   apart = subst Apart (sym (ap places written ∙ places_set (entries slots) k (get_or (places (entries slots)) k []) w refl)) v.apart;
   validity = subst BitsOfValidity (sym (changed_seen slots new k p w v less at written)) (validity_insert (seen_slots slots) p w v.validity f);
@@ -67,7 +63,7 @@ lacked slots p v none k less at =
     let both : Some (get_or (entries slots) k ([], (0, 0))).1 ≡ None = sym here ∙ gone in cc
 
 -- the hashes stay with the places
-pub changed_index : (hashes : List ℕ) (slots new : List Slot) (k : ℕ) (p : List ℕ) (w : Word) → Indexed hashes slots → k < length (places (entries slots)) → get_or (places (entries slots)) k [] ≡ p → entries new ≡ set (entries slots) k (get_or (places (entries slots)) k [], w) → (slice_index p 0 ≡ 1 → w.0 ≡ 1) → Indexed hashes new
+pub changed_index : (hashes : List ℕ) (slots new : List Slot) (k : ℕ) (p : List ℕ) (w : BitWord) → Indexed hashes slots → k < length (places (entries slots)) → get_or (places (entries slots)) k [] ≡ p → entries new ≡ set (entries slots) k (get_or (places (entries slots)) k [], w) → (slice_index p 0 ≡ 1 → w.0 ≡ 1) → Indexed hashes new
 changed_index hashes slots new k p w v less at written f = record {
   vector = changed slots new k p w v.vector less at written f;
   hashed = v.hashed ∙ sym (ap (map place_hash) (ap places written ∙ places_set (entries slots) k (get_or (places (entries slots)) k []) w refl));
@@ -80,7 +76,7 @@ added_seen slots s v none =
 
 pub added : (slots : List Slot) (s : Slot) → IsVector slots → get (seen_slots slots) (slot_place s) ≡ None → (slice_index (slot_place s) 0 ≡ 1 → (word s.value).0 ≡ 1) → IsVector (slots ++ s ∷ [])
 added slots s v none f = record {
-  apart = subst Apart (sym (ap places (map_push entry slots s) ∙ map_push (λ (e : List ℕ × Word). e.0) (entries slots) (entry s))) (apart_push (places (entries slots)) (slot_place s) v.apart (lacked slots (slot_place s) v none));
+  apart = subst Apart (sym (ap places (map_push entry slots s) ∙ map_push (λ (e : List ℕ × BitWord). e.0) (entries slots) (entry s))) (apart_push (places (entries slots)) (slot_place s) v.apart (lacked slots (slot_place s) v none));
   validity = subst BitsOfValidity (sym (added_seen slots s v none)) (validity_insert (seen_slots slots) (slot_place s) (word s.value) v.validity f);
 }
 
@@ -92,7 +88,7 @@ has_place slots m k p is v less at =
 pub lacks_place : (slots : List Slot) (m : Vectored) (p : List ℕ) → seen_slots slots ≡ m → ((k : ℕ) → k < length (places (entries slots)) → get_or (places (entries slots)) k [] ≢ p) → false ≡ contains_key m p
 lacks_place slots m p is h = ap is_some (sym (seen_nowhere slots p h)) ∙ ap (λ (n : Vectored). contains_key n p) is
 
-none_from : (o : Option Word) → is_some o ≡ false → o ≡ None
+none_from : (o : Option BitWord) → is_some o ≡ false → o ≡ None
 none_from None e = refl
 none_from (Some w) e = cc
 
@@ -104,5 +100,5 @@ added_index hashes slots s v none f = record {
   vector = added slots s v.vector none f;
   hashed =
       ap (λ (hs : List ℕ). hs ++ place_hash (slot_place s) ∷ []) v.hashed
-      ∙ sym (ap (map place_hash) (ap places (map_push entry slots s) ∙ map_push (λ (e : List ℕ × Word). e.0) (entries slots) (entry s)) ∙ map_push place_hash (places (entries slots)) (slot_place s));
+      ∙ sym (ap (map place_hash) (ap places (map_push entry slots s) ∙ map_push (λ (e : List ℕ × BitWord). e.0) (entries slots) (entry s)) ∙ map_push place_hash (places (entries slots)) (slot_place s));
 }

@@ -5,8 +5,11 @@ use Rattle.std.proofs.lemmas.Slice.Eq.{bytes_eq-Decides}
 use Rattle.elastic_ast.specs.Tree.{Name}
 use Rattle.elastic_ast.specs.Typing.Scope.{same}
 
+pub same_if : (one other : Name) → one ≡ other → same one other ≡ true
+same_if one other e = (bytes_eq-Decides one other).1 e
+
 pub same_self : (name : Name) → same name name ≡ true
-same_self name = (bytes_eq-Decides name name).1 refl
+same_self name = same_if name name refl
 
 pub same_told : (one other : Name) → same one other ≡ true → one ≡ other
 same_told one other e = (bytes_eq-Decides one other).0 e

@@ -55,6 +55,10 @@ mapped : (o : Option Rule) (k d : ℕ) (r : Rule) → option_map (λ x. let p : 
 mapped None k d r h = cc
 mapped (Some x) k d r h = let e : (let p : Rule × ℕ = (x, k) in p) ≡ (r, d) = cc in (ap (λ z. Some z.0) e, ap (λ z. z.1) e)
 
+pub if_none : {A : Type 0} (b : Bool) (x : A) (o : Option A) → (if b then o else Some x) ≡ None → (b ≡ true) × (o ≡ None)
+if_none true x o h = (refl, h)
+if_none false x o h = cc
+
 pub unmapped : (o : Option Rule) (k : ℕ) → option_map (λ x. let p : Rule × ℕ = (x, k) in p) o ≡ None → o ≡ None
 unmapped None k h = refl
 unmapped (Some x) k h = cc

@@ -5,7 +5,7 @@ use denote.Bor.{Bor}
 use Rattle.std.specs.Option.{option_eq}
 use Rattle.std.specs.Str.{bytes_eq}
 use Rattle.std.specs.List.{position}
-use Rattle.elx_bits.specs.Words.{Word}
+use Rattle.elx_bits.specs.Words.{BitWord}
 
 -- the name and the index of a register
 abbrev pub Key : Type 0
@@ -61,12 +61,12 @@ unfoldable pub register_at : List Register → List ℕ → Option ℕ → Optio
 register_at registers name index = position (same_key (name, index)) (keys registers)
 
 -- a cell of a register, as a word of the register's width
-unfoldable pub cell_at : List Register → ℕ → ℕ → Option Word
+unfoldable pub cell_at : List Register → ℕ → ℕ → Option BitWord
 cell_at registers place cell =
     option_and_then (λ register. option_map (λ value. (width_of register, value)) (slice_get (values_of register) cell)) (slice_get registers place)
 
 -- whether a cell is there and has this width
-abbrev pub is_of_width : Option Word → ℕ → Bool
+abbrev pub is_of_width : Option BitWord → ℕ → Bool
 is_of_width None width = false
 is_of_width (Some word) width = word.0 == width
 

@@ -2,7 +2,7 @@
 use Rattle.std.specs.Prelude.{◌≡◌, ◌≢◌, ◌<◌, ℕ, List, [], map, length, get_or, slice_index_or, unwrap_or, Option, MatchOption}
 use Rattle.std.specs.FinMap.{from_entries}
 use Rattle.std.specs.FinMap as finite
-use Rattle.elx_bits.specs.Words.{Word}
+use Rattle.elx_bits.specs.Words.{BitWord}
 use Rattle.elastic_ast.specs.declared.slot.Slot.{Slot}
 use Rattle.elastic_ast.specs.Containers.Fnv.{fnv, fnv_start}
 use Rattle.elastic_ast.specs.Containers.LocationPlaces.{place}
@@ -12,21 +12,21 @@ use Rattle.elastic_ast.specs.Containers.BitWords.{word}
 abbrev pub slot_place : Slot → List ℕ
 slot_place slot = place slot.at slot.index
 
-abbrev pub entry : Slot → List ℕ × Word
+abbrev pub entry : Slot → List ℕ × BitWord
 entry slot = (slot_place slot, word slot.value)
 
-abbrev pub entries : List Slot → List (List ℕ × Word)
+abbrev pub entries : List Slot → List (List ℕ × BitWord)
 entries slots = map entry slots
 
-abbrev pub places : List (List ℕ × Word) → List (List ℕ)
-places known = map (λ (e : List ℕ × Word). e.0) known
+abbrev pub places : List (List ℕ × BitWord) → List (List ℕ)
+places known = map (λ (e : List ℕ × BitWord). e.0) known
 
 -- the map that slots stand for
 abbrev pub seen_slots : List Slot → Vectored
 seen_slots slots = from_entries (entries slots)
 
 -- an entry with the word of a vector, where the vector has its place
-abbrev pub word_from : Vectored → List ℕ × Word → List ℕ × Word
+abbrev pub word_from : Vectored → List ℕ × BitWord → List ℕ × BitWord
 word_from vector e = (e.0, unwrap_or (finite.get vector e.0) e.1)
 
 -- no two of the places are the same

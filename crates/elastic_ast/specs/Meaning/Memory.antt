@@ -2,7 +2,7 @@
 -- and what is written to it. This project's own.
 use Rattle.std.specs.Prelude.{ℕ, ◌&&◌, nat_eq, List, Option, Some, None, if◌then◌else◌}
 use Rattle.std.specs.Option.{option_eq}
-use Rattle.elx_bits.specs.Words.{Word}
+use Rattle.elx_bits.specs.Words.{BitWord}
 use Rattle.elastic_ast.specs.Tree.{Name}
 use Rattle.elastic_ast.specs.Typing.Scope.{same, or_else}
 use Rattle.elastic_ast.specs.Containers.Vectors.{Vectored, value_at}
@@ -14,7 +14,7 @@ pub data Spot : Type 0 where
   Reg : Name → Option ℕ → Spot
 
 abbrev pub HeldAt : Spot → Type 0
-HeldAt (At place) = Word
+HeldAt (At place) = BitWord
 HeldAt (Reg name index) = List ℕ
 
 abbrev pub Memory : Type 0
@@ -26,7 +26,7 @@ Cells = Name → Option ℕ → List ℕ
 
 -- a word at each place
 abbrev pub Words : Type 0
-Words = List ℕ → Word
+Words = List ℕ → BitWord
 
 -- the memory of a word at each place and cells in each register
 abbrev pub held : Words → Cells → Memory
@@ -63,7 +63,7 @@ abbrev pub and_then : Writes → Writes → Writes
 and_then first second = λ spot. or_else (second spot) (first spot)
 
 -- a word is written at a place, and nothing else
-abbrev pub put : List ℕ → Word → Writes
+abbrev pub put : List ℕ → BitWord → Writes
 put place word (At other) = if same place other then Some word else None
 put place word (Reg name index) = None
 

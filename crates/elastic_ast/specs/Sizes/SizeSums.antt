@@ -29,12 +29,12 @@ abbrev pub count_of : List Name → List ℕ → Option Name → ℕ
 count_of symbols sizes None = 1
 count_of symbols sizes (Some name) = size_of symbols sizes name
 
-abbrev pub signed : Bool → ℤ → ℤ
-signed true value = neg_ℤ value
-signed false value = value
+abbrev pub negated_if : Bool → ℤ → ℤ
+negated_if true value = neg_ℤ value
+negated_if false value = value
 
 abbrev pub term_value : List Name → List ℕ → LinTerm → ℤ
-term_value symbols sizes term = signed term.minus (pos (term.by * count_of symbols sizes term.symbol))
+term_value symbols sizes term = negated_if term.minus (pos (term.by * count_of symbols sizes term.symbol))
 
 abbrev pub sum_value : List Name → List ℕ → List LinTerm → ℤ
 sum_value symbols sizes [] = pos 0
@@ -79,7 +79,7 @@ step_value size value (pair ∷ pairs) = step_value size (if nat_le pair.0 size 
 
 abbrev pub util_value : List Name → List ℕ → UtilTerm → ℤ
 util_value symbols sizes (util.Lin term) = term_value symbols sizes term
-util_value symbols sizes (util.Steps minus symbol pairs) = signed minus (pos (step_value (size_of symbols sizes symbol) 0 pairs))
+util_value symbols sizes (util.Steps minus symbol pairs) = negated_if minus (pos (step_value (size_of symbols sizes symbol) 0 pairs))
 
 abbrev pub utils_value : List Name → List ℕ → List UtilTerm → ℤ
 utils_value symbols sizes [] = pos 0

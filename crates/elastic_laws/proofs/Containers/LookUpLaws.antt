@@ -6,7 +6,7 @@ use Rattle.std.proofs.lemmas.Bool.{cases_eq}
 use Rattle.std.proofs.lemmas.List.{length-map, map-append, get_or_append_left}
 use Rattle.std.proofs.lemmas.List.Quantifiers.{position-Some}
 use Rattle.std.proofs.Math.Seq.{get_or-append_seam}
-use Rattle.elx_bits.specs.Words.{Word}
+use Rattle.elx_bits.specs.Words.{BitWord}
 use Rattle.elastic_ast.specs.Containers.RegisterLists.{Register, Key, no_register, same_key, register_key, keys, width_of, values_of, register_at, register_or_none, width_at, values_at, cell_at, with_cell, stored}
 use Rattle.elastic_ast.proofs.Containers.KeyLaws.{same_self}
 use Rattle.elastic_ast.proofs.Containers.PositionLaws.{position_is, none_position}
@@ -44,11 +44,11 @@ elsewhere rs place cell value None ne = refl
 elsewhere rs place cell value (Some other) ne = ap (λ o. unwrap_or o no_register) (slice_get-with_cell_other rs place cell value other (λ e. ne (ap Some (sym e))))
 
 -- the cells of a register that is found are the values of its name and index
-pub cell_named : (rs : List Register) (name : List ℕ) (index : Option ℕ) (place cell : ℕ) → register_at rs name index ≡ Some place → cell_at rs place cell ≡ option_map (λ value. let x : Word = (width_at rs name index, value) in x) (slice_get (values_at rs name index) cell)
+pub cell_named : (rs : List Register) (name : List ℕ) (index : Option ℕ) (place cell : ℕ) → register_at rs name index ≡ Some place → cell_at rs place cell ≡ option_map (λ value. let x : BitWord = (width_at rs name index, value) in x) (slice_get (values_at rs name index) cell)
 unfolding width_at values_at cell_at
 cell_named rs name index place cell at = rw at (by (slice_get rs place))
   where
-    by : (o : Option Register) → option_and_then (λ r. option_map (λ value. let x : Word = (width_of r, value) in x) (slice_get (values_of r) cell)) o ≡ option_map (λ value. let x : Word = (width_of (unwrap_or o no_register), value) in x) (slice_get (values_of (unwrap_or o no_register)) cell)
+    by : (o : Option Register) → option_and_then (λ r. option_map (λ value. let x : BitWord = (width_of r, value) in x) (slice_get (values_of r) cell)) o ≡ option_map (λ value. let x : BitWord = (width_of (unwrap_or o no_register), value) in x) (slice_get (values_of (unwrap_or o no_register)) cell)
     by None = refl
     by (Some r) = refl
 

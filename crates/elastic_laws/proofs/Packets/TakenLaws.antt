@@ -3,7 +3,7 @@ use Rattle.std.proofs.Common.{◌≡◌, ℕ, zero, suc, ◌+◌, ◌*◌, ◌<�
 use Rattle.std.proofs.lemmas.Bool.{and_parts, not-true, or_parts}
 use Rattle.std.specs.List.{list_all}
 use Rattle.std.proofs.lemmas.Slice.Eq.{bytes_eq-Decides}
-use Rattle.elx_bits.specs.Words.{Word}
+use Rattle.elx_bits.specs.Words.{BitWord}
 use Rattle.elastic_ast.specs.declared.flat.Location.TheVariants as location
 use Rattle.elastic_ast.specs.declared.flat.Packet.{Packet}
 use Rattle.elastic_ast.specs.declared.declarations.Field.{Field}
@@ -180,7 +180,7 @@ each_width (field ∷ fields) h =
 
 -- what is written fits the locations
 
-abbrev Fits : List PlaceWidth → List ℕ → Option Word → Type 0
+abbrev Fits : List PlaceWidth → List ℕ → Option BitWord → Type 0
 Fits places at word = IfSome word (IsTidy places at)
 
 abbrev Fitting : List PlaceWidth → Writes → Type 0
@@ -189,18 +189,18 @@ Fitting places writes = (at : List ℕ) → Fits places at (writes (At at))
 abbrev Tidy : List PlaceWidth → Memory → Type 0
 Tidy places memory = (at : List ℕ) → IsTidy places at (memory (At at))
 
-later_fits : (places : List PlaceWidth) (at : List ℕ) (one other : Option Word) → Fits places at one → Fits places at other → Fits places at (or_else one other)
+later_fits : (places : List PlaceWidth) (at : List ℕ) (one other : Option BitWord) → Fits places at one → Fits places at other → Fits places at (or_else one other)
 later_fits places at (Some word) other h k = h
 later_fits places at None other h k = k
 
 over_tidy : (places : List PlaceWidth) (writes : Writes) (memory : Memory) → Fitting places writes → Tidy places memory → Tidy places (over writes memory)
 over_tidy places writes memory h tidy at = by (writes (At at)) (h at)
   where
-    by : (word : Option Word) → Fits places at word → IsTidy places at (written_or word (memory (At at)))
+    by : (word : Option BitWord) → Fits places at word → IsTidy places at (written_or word (memory (At at)))
     by (Some word) h = h
     by None h = tidy at
 
-put_fits : (places : List PlaceWidth) (at : List ℕ) (word : Word) → width_found places at ≡ Some word.0 → word.1 < 2 ^ word.0 → Fitting places (put at word)
+put_fits : (places : List PlaceWidth) (at : List ℕ) (word : BitWord) → width_found places at ≡ Some word.0 → word.1 < 2 ^ word.0 → Fitting places (put at word)
 put_fits places at word known fits other = by (same at other) refl
   where
     by : (b : Bool) → same at other ≡ b → Fits places other (if b then Some word else None)

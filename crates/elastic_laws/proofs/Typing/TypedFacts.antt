@@ -111,12 +111,7 @@ mutual
   stmt_unnested allow s locals (PlainStmt.For index size body) h =
       let p = parts allow (asks_loop s index size) (asks_stmts (in_loop s index size) locals body) h in
       (alone s.index (head_met allow (Alone (is_none s.index)) (Known (is_symbol s.before size) ∷ asks_names [] (index ∷ [])) p.0).0, stmts_unnested allow (in_loop s index size) locals body p.1)
-  stmt_unnested allow s locals (PlainStmt.Assign to value) h = tt
-  stmt_unnested allow s locals (PlainStmt.Read to register cell) h = tt
-  stmt_unnested allow s locals (PlainStmt.Write register cell value) h = tt
-  stmt_unnested allow s locals (PlainStmt.Valid header on) h = tt
-  stmt_unnested allow s locals (PlainStmt.Call action index args) h = tt
-  stmt_unnested allow s locals (PlainStmt.Apply table) h = tt
+  stmt_unnested allow s locals other h = tt
 
   stmts_unnested : (allow : Bool) (s : Scope) (locals : List PlainLocal) (xs : PlainStmts) → first_broken allow (asks_stmts s locals xs) ≡ None → Unnested xs (is_some s.index)
   stmts_unnested allow s locals PlainStmts.nil h = tt
@@ -146,18 +141,7 @@ if_some false x y h = cc
 
 control_given : (name : Name) (x : PlainDecl) (body : PlainStmts) → control_in name x ≡ Some body → (control : Name) × (locals : List PlainLocal) × (x ≡ PlainDecl.Control control locals body)
 control_given name (PlainDecl.Control control locals other) body h = (control, locals, ap (PlainDecl.Control control locals) (if_some (same name control) other body h))
-control_given name (PlainDecl.Include n) body h = cc
-control_given name (PlainDecl.Symbol n) body h = cc
-control_given name (PlainDecl.Assume cs) body h = cc
-control_given name (PlainDecl.Maximize ts) body h = cc
-control_given name (PlainDecl.Const n w v) body h = cc
-control_given name (PlainDecl.Header n fs) body h = cc
-control_given name (PlainDecl.Headers ms) body h = cc
-control_given name (PlainDecl.Meta fs) body h = cc
-control_given name (PlainDecl.Register n w c s) body h = cc
-control_given name (PlainDecl.Parser n ss) body h = cc
-control_given name (PlainDecl.Deparser n es) body h = cc
-control_given name (PlainDecl.Main p c d) body h = cc
+control_given name other body h = cc
 
 -- the control's body, which `main` names, is that of a declared control, or there is none
 pub body_unnested : (allow : Bool) (ds : List PlainDecl) → Typed allow ds → Unnested (body_of ds) false

@@ -32,18 +32,7 @@ none_wide field c = absurd (omega arith)
 -- the members of `headers_t`
 headers_given : (x : PlainDecl) (members : List (Name × Name)) → members_in x ≡ Some members → x ≡ PlainDecl.Headers members
 headers_given (PlainDecl.Headers other) members h = let e : other ≡ members = cc in ap PlainDecl.Headers e
-headers_given (PlainDecl.Include n) members h = cc
-headers_given (PlainDecl.Symbol n) members h = cc
-headers_given (PlainDecl.Assume cs) members h = cc
-headers_given (PlainDecl.Maximize ts) members h = cc
-headers_given (PlainDecl.Const n w v) members h = cc
-headers_given (PlainDecl.Header n fs) members h = cc
-headers_given (PlainDecl.Meta fs) members h = cc
-headers_given (PlainDecl.Register n w c s) members h = cc
-headers_given (PlainDecl.Parser n ss) members h = cc
-headers_given (PlainDecl.Control n ls b) members h = cc
-headers_given (PlainDecl.Deparser n es) members h = cc
-headers_given (PlainDecl.Main p c d) members h = cc
+headers_given other members h = cc
 
 pub members_distinct : (allow : Bool) (ds : List PlainDecl) → IsMet allow ds → Distinct (map member_name (members_of ds))
 members_distinct allow ds t = by (found members_in ds) refl
@@ -58,18 +47,7 @@ members_distinct allow ds t = by (found members_in ds) refl
 -- the fields of a header type
 type_given : (name : Name) (x : PlainDecl) (fields : List Field) → header_type_in name x ≡ Some fields → (type : Name) × (x ≡ PlainDecl.Header type fields)
 type_given name (PlainDecl.Header type other) fields h = (type, ap (PlainDecl.Header type) (if_some (same name type) other fields h))
-type_given name (PlainDecl.Headers ms) fields h = cc
-type_given name (PlainDecl.Include n) fields h = cc
-type_given name (PlainDecl.Symbol n) fields h = cc
-type_given name (PlainDecl.Assume cs) fields h = cc
-type_given name (PlainDecl.Maximize ts) fields h = cc
-type_given name (PlainDecl.Const n w v) fields h = cc
-type_given name (PlainDecl.Meta fs) fields h = cc
-type_given name (PlainDecl.Register n w c s) fields h = cc
-type_given name (PlainDecl.Parser n ss) fields h = cc
-type_given name (PlainDecl.Control n ls b) fields h = cc
-type_given name (PlainDecl.Deparser n es) fields h = cc
-type_given name (PlainDecl.Main p c d) fields h = cc
+type_given name other fields h = cc
 
 -- names that differ, widths, and whole bytes together
 pub record GoodHeader (fields : List Field) : Type 0 where
@@ -107,18 +85,7 @@ header_good allow ds t header = by (find (λ (member : Name × Name). same heade
 -- the metadata
 pub meta_given : (x : PlainDecl) (fields : List Field) → meta_in x ≡ Some fields → x ≡ PlainDecl.Meta fields
 meta_given (PlainDecl.Meta other) fields h = let e : other ≡ fields = cc in ap PlainDecl.Meta e
-meta_given (PlainDecl.Include n) fields h = cc
-meta_given (PlainDecl.Symbol n) fields h = cc
-meta_given (PlainDecl.Assume cs) fields h = cc
-meta_given (PlainDecl.Maximize ts) fields h = cc
-meta_given (PlainDecl.Const n w v) fields h = cc
-meta_given (PlainDecl.Header n fs) fields h = cc
-meta_given (PlainDecl.Headers ms) fields h = cc
-meta_given (PlainDecl.Register n w c s) fields h = cc
-meta_given (PlainDecl.Parser n ss) fields h = cc
-meta_given (PlainDecl.Control n ls b) fields h = cc
-meta_given (PlainDecl.Deparser n es) fields h = cc
-meta_given (PlainDecl.Main p c d) fields h = cc
+meta_given other fields h = cc
 
 pub meta_good : (allow : Bool) (ds : List PlainDecl) → IsMet allow ds → Distinct (map field_name (meta_fields ds)) × AreWide (meta_fields ds)
 meta_good allow ds t = by (found meta_in ds) refl
@@ -137,18 +104,7 @@ meta_good allow ds t = by (found meta_in ds) refl
 register_given : (name : Name) (x : PlainDecl) (width : ℕ) → register_in name x ≡ Some width → (allow : Bool) (before : List PlainDecl) → first_broken allow (asks_decl before x) ≡ None → (1 ≤ width) × (width ≤ 128)
 register_given name (PlainDecl.Register register other cells size) width h allow before k =
     subst (λ z. (1 ≤ z) × (z ≤ 128)) (if_some (same name register) other width h) (wide_is other (head_met allow (Wide other) (asks_amount before cells ++ asks_symbol before size) k).0)
-register_given name (PlainDecl.Include n) width h allow before k = cc
-register_given name (PlainDecl.Symbol n) width h allow before k = cc
-register_given name (PlainDecl.Assume cs) width h allow before k = cc
-register_given name (PlainDecl.Maximize ts) width h allow before k = cc
-register_given name (PlainDecl.Const n w v) width h allow before k = cc
-register_given name (PlainDecl.Header n fs) width h allow before k = cc
-register_given name (PlainDecl.Headers ms) width h allow before k = cc
-register_given name (PlainDecl.Meta fs) width h allow before k = cc
-register_given name (PlainDecl.Parser n ss) width h allow before k = cc
-register_given name (PlainDecl.Control n ls b) width h allow before k = cc
-register_given name (PlainDecl.Deparser n es) width h allow before k = cc
-register_given name (PlainDecl.Main p c d) width h allow before k = cc
+register_given name other width h allow before k = cc
 
 pub register_wide : (allow : Bool) (ds : List PlainDecl) → IsMet allow ds → (name : Name) (width : ℕ) → register_width ds name ≡ Some width → (1 ≤ width) × (width ≤ 128)
 register_wide allow ds t name width h =
@@ -166,18 +122,7 @@ constant_given name (PlainDecl.Const other width value) constant h allow before 
     let own : ℕ × ℕ = (width, value) in
     let e : own ≡ constant = if_some (same name other) own constant h in
     subst IsConstant e (w.0, w.1, (head_met allow (Fits value (Bits width)) [] p.1).0)
-constant_given name (PlainDecl.Include n) constant h allow before k = cc
-constant_given name (PlainDecl.Symbol n) constant h allow before k = cc
-constant_given name (PlainDecl.Assume cs) constant h allow before k = cc
-constant_given name (PlainDecl.Maximize ts) constant h allow before k = cc
-constant_given name (PlainDecl.Header n fs) constant h allow before k = cc
-constant_given name (PlainDecl.Headers ms) constant h allow before k = cc
-constant_given name (PlainDecl.Meta fs) constant h allow before k = cc
-constant_given name (PlainDecl.Register n w c s) constant h allow before k = cc
-constant_given name (PlainDecl.Parser n ss) constant h allow before k = cc
-constant_given name (PlainDecl.Control n ls b) constant h allow before k = cc
-constant_given name (PlainDecl.Deparser n es) constant h allow before k = cc
-constant_given name (PlainDecl.Main p c d) constant h allow before k = cc
+constant_given name other constant h allow before k = cc
 
 pub constant_fits : (allow : Bool) (ds : List PlainDecl) → IsMet allow ds → (name : Name) (constant : ℕ × ℕ) → declared_constant ds name ≡ Some constant
     → (1 ≤ constant.0) × (constant.0 ≤ 128) × (nat_lt constant.1 (2 ^ constant.0) ≡ true)
@@ -188,18 +133,7 @@ constant_fits allow ds t name constant h =
 -- the parser that `main` names
 parser_given : (name : Name) (x : PlainDecl) (states : List PlainState) → parser_in name x ≡ Some states → (parser : Name) × (x ≡ PlainDecl.Parser parser states)
 parser_given name (PlainDecl.Parser parser other) states h = (parser, ap (PlainDecl.Parser parser) (if_some (same name parser) other states h))
-parser_given name (PlainDecl.Include n) states h = cc
-parser_given name (PlainDecl.Symbol n) states h = cc
-parser_given name (PlainDecl.Assume cs) states h = cc
-parser_given name (PlainDecl.Maximize ts) states h = cc
-parser_given name (PlainDecl.Const n w v) states h = cc
-parser_given name (PlainDecl.Header n fs) states h = cc
-parser_given name (PlainDecl.Headers ms) states h = cc
-parser_given name (PlainDecl.Meta fs) states h = cc
-parser_given name (PlainDecl.Register n w c s) states h = cc
-parser_given name (PlainDecl.Control n ls b) states h = cc
-parser_given name (PlainDecl.Deparser n es) states h = cc
-parser_given name (PlainDecl.Main p c d) states h = cc
+parser_given name other states h = cc
 
 pub record ParserAt (ds : List PlainDecl) (states : List PlainState) : Type 0 where
   pub number : ℕ
@@ -246,18 +180,7 @@ extracted_is_member allow ds t states h state c header k =
 -- the deparser that `main` names
 deparser_given : (name : Name) (x : PlainDecl) (emits : List Name) → deparser_in name x ≡ Some emits → (deparser : Name) × (x ≡ PlainDecl.Deparser deparser emits)
 deparser_given name (PlainDecl.Deparser deparser other) emits h = (deparser, ap (PlainDecl.Deparser deparser) (if_some (same name deparser) other emits h))
-deparser_given name (PlainDecl.Include n) emits h = cc
-deparser_given name (PlainDecl.Symbol n) emits h = cc
-deparser_given name (PlainDecl.Assume cs) emits h = cc
-deparser_given name (PlainDecl.Maximize ts) emits h = cc
-deparser_given name (PlainDecl.Const n w v) emits h = cc
-deparser_given name (PlainDecl.Header n fs) emits h = cc
-deparser_given name (PlainDecl.Headers ms) emits h = cc
-deparser_given name (PlainDecl.Meta fs) emits h = cc
-deparser_given name (PlainDecl.Register n w c s) emits h = cc
-deparser_given name (PlainDecl.Parser n ss) emits h = cc
-deparser_given name (PlainDecl.Control n ls b) emits h = cc
-deparser_given name (PlainDecl.Main p c d) emits h = cc
+deparser_given name other emits h = cc
 
 pub emitted_is_member : (allow : Bool) (ds : List PlainDecl) → Typed allow ds → (header : Name) → Contains (emits_of ds) header → is_member ds header ≡ true
 emitted_is_member allow ds t header c = by (found main_in ds) c

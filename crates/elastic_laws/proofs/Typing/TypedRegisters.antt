@@ -53,14 +53,7 @@ write_known allow s register cell value h =
 plain_known : (allow : Bool) (s : Scope) (locals : List PlainLocal) (x : PlainStmt) → first_broken allow (asks_stmt s locals x) ≡ None → are_registers s.before (plain_registers x) ≡ true
 plain_known allow s locals (PlainStmt.Read to register cell) h = and_from (is_register s.before register.name) true (read_known allow s to register cell h) refl
 plain_known allow s locals (PlainStmt.Write register cell value) h = and_from (is_register s.before register.name) true (write_known allow s register cell value h) refl
-plain_known allow s locals (PlainStmt.Block stage body) h = refl
-plain_known allow s locals (PlainStmt.If condition body) h = refl
-plain_known allow s locals (PlainStmt.IfElse condition body other) h = refl
-plain_known allow s locals (PlainStmt.For index size body) h = refl
-plain_known allow s locals (PlainStmt.Assign to value) h = refl
-plain_known allow s locals (PlainStmt.Valid header on) h = refl
-plain_known allow s locals (PlainStmt.Call action index args) h = refl
-plain_known allow s locals (PlainStmt.Apply table) h = refl
+plain_known allow s locals other h = refl
 
 body_known : (allow : Bool) (s : Scope) (locals : List PlainLocal) (xs : PlainStmts) → first_broken allow (asks_stmts s locals xs) ≡ None → are_registers s.before (body_registers xs) ≡ true
 body_known allow s locals PlainStmts.nil h = refl
@@ -151,18 +144,7 @@ in_either (z ∷ xs) ys (suc i) x e = by (in_either xs ys i x e)
 
 unit_in : (x : PlainDecl) (j : ℕ) (naming : Naming) → slice_get (registers_in x) j ≡ Some naming → (control : Name) × (locals : List PlainLocal) × (body : PlainStmts) × (x ≡ PlainDecl.Control control locals body) × (slice_get (units_registers locals false body) j ≡ Some naming)
 unit_in (PlainDecl.Control control locals body) j naming e = (control, locals, body, refl, e)
-unit_in (PlainDecl.Include n) j naming e = cc
-unit_in (PlainDecl.Symbol n) j naming e = cc
-unit_in (PlainDecl.Assume cs) j naming e = cc
-unit_in (PlainDecl.Maximize ts) j naming e = cc
-unit_in (PlainDecl.Const n w v) j naming e = cc
-unit_in (PlainDecl.Header n fs) j naming e = cc
-unit_in (PlainDecl.Headers ms) j naming e = cc
-unit_in (PlainDecl.Meta fs) j naming e = cc
-unit_in (PlainDecl.Register n w c s) j naming e = cc
-unit_in (PlainDecl.Parser n ss) j naming e = cc
-unit_in (PlainDecl.Deparser n es) j naming e = cc
-unit_in (PlainDecl.Main p c d) j naming e = cc
+unit_in other j naming e = cc
 
 pub unit_at : (ds : List PlainDecl) (u : ℕ) (naming : Naming) → slice_get (named_registers ds) u ≡ Some naming → UnitAt ds naming
 unit_at [] u naming e = cc
@@ -208,18 +190,7 @@ size_given name (PlainDecl.Register register width cells other) size h = by (sam
     by : (b : Bool) → same name register ≡ b → (if b then Some other else None) ≡ Some size → (w : ℕ) × (c : Amount) × (o : Option Name) × (PlainDecl.Register register width cells other ≡ PlainDecl.Register name w c o)
     by true e k = (width, cells, other, ap (λ z. PlainDecl.Register z width cells other) (sym (same_text name register (sym e))))
     by false e k = cc
-size_given name (PlainDecl.Include n) size h = cc
-size_given name (PlainDecl.Symbol n) size h = cc
-size_given name (PlainDecl.Assume cs) size h = cc
-size_given name (PlainDecl.Maximize ts) size h = cc
-size_given name (PlainDecl.Const n w v) size h = cc
-size_given name (PlainDecl.Header n fs) size h = cc
-size_given name (PlainDecl.Headers ms) size h = cc
-size_given name (PlainDecl.Meta fs) size h = cc
-size_given name (PlainDecl.Parser n ss) size h = cc
-size_given name (PlainDecl.Control n ls b) size h = cc
-size_given name (PlainDecl.Deparser n es) size h = cc
-size_given name (PlainDecl.Main p c d) size h = cc
+size_given name other size h = cc
 
 declared_in : (n : ℕ) (ds : List PlainDecl) (register : Name) (o : Option (Option Name)) → register_size (take n ds) register ≡ o → is_some o ≡ true → RegisterAt ds register
 declared_in n ds register None f h = absurd (true≢false (sym h))

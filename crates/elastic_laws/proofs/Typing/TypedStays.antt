@@ -103,11 +103,8 @@ operands allow s op left right giver h =
     (p.0, q.0, q.1)
 
 pub type_stays : (allow : Bool) (s : Scope) (more : List PlainDecl) (e : PlainExpr) (giver : Ty) → first_broken allow (asks_expr s e giver) ≡ None → type_of (names_at (wider s more)) e ≡ type_of (names_at s) e
-type_stays allow s more (PlainExpr.Num width number) giver h = refl
-type_stays allow s more (PlainExpr.Truth value) giver h = refl
 type_stays allow s more (PlainExpr.Named name) giver h = named_stays allow s more name h
 type_stays allow s more (PlainExpr.At place) giver h = lval_stays allow s more place h
-type_stays allow s more (PlainExpr.IsValid header) giver h = refl
 type_stays allow s more (PlainExpr.Unary op of) giver h =
     let sort = sort_of (operator_of op) in
     ap (turned_type sort) (type_stays allow s more of (turned_giver sort giver) (parts allow (asks_expr s of (turned_giver sort giver)) (asks_turned sort (type_of (names_at s) of)) h).0)
@@ -118,6 +115,4 @@ type_stays allow s more (PlainExpr.Binary op left right) giver h =
     let p = operands allow s op left right giver h in
     ap (λ z. outcome sort z (type_of (names_at (wider s more)) right)) (type_stays allow s more left (left_giver sort a b) p.0)
     ∙ ap (λ z. outcome sort a z) (type_stays allow s more right (right_giver sort a b) p.1)
-type_stays allow s more (PlainExpr.Cast width of) giver h = refl
-type_stays allow s more (PlainExpr.Slice of high low) giver h = refl
-type_stays allow s more (PlainExpr.Hash k of modulus) giver h = refl
+type_stays allow s more other giver h = refl

@@ -26,18 +26,7 @@ symbol_among (PlainDecl.Symbol symbol ∷ ds) name = by (same name symbol) (symb
     by : (b : Bool) → is_symbol ds name ≡ among (symbols_of ds) name → is_some (or_else (if b then Some symbol else None) (found (symbol_of name) ds)) ≡ (b || among (symbols_of ds) name)
     by true h = refl
     by false h = h
-symbol_among (PlainDecl.Include n ∷ ds) name = symbol_among ds name
-symbol_among (PlainDecl.Assume cs ∷ ds) name = symbol_among ds name
-symbol_among (PlainDecl.Maximize ts ∷ ds) name = symbol_among ds name
-symbol_among (PlainDecl.Const n w v ∷ ds) name = symbol_among ds name
-symbol_among (PlainDecl.Header n fs ∷ ds) name = symbol_among ds name
-symbol_among (PlainDecl.Headers ms ∷ ds) name = symbol_among ds name
-symbol_among (PlainDecl.Meta fs ∷ ds) name = symbol_among ds name
-symbol_among (PlainDecl.Register n w c s ∷ ds) name = symbol_among ds name
-symbol_among (PlainDecl.Parser n ss ∷ ds) name = symbol_among ds name
-symbol_among (PlainDecl.Control n ls b ∷ ds) name = symbol_among ds name
-symbol_among (PlainDecl.Deparser n es ∷ ds) name = symbol_among ds name
-symbol_among (PlainDecl.Main p c d ∷ ds) name = symbol_among ds name
+symbol_among (other ∷ ds) name = symbol_among ds name
 
 -- what is a symbol among the first declarations is one of the program
 pub symbol_of_all : (n : ℕ) (ds : List PlainDecl) (name : Name) → is_symbol (take n ds) name ≡ true → is_symbol ds name ≡ true

@@ -53,18 +53,7 @@ module _ {B : Type 0} (gives : PlainLocal → Option B) where
 
   in_decl : (x : PlainDecl) (given : B) → found gives (locals_in x) ≡ Some given → (control : Name) × (locals : List PlainLocal) × (body : PlainStmts) × (x ≡ PlainDecl.Control control locals body) × FoundAt gives locals given
   in_decl (PlainDecl.Control control locals body) given h = (control, locals, body, refl, found_at gives locals given h)
-  in_decl (PlainDecl.Include n) given h = cc
-  in_decl (PlainDecl.Symbol n) given h = cc
-  in_decl (PlainDecl.Assume cs) given h = cc
-  in_decl (PlainDecl.Maximize ts) given h = cc
-  in_decl (PlainDecl.Const n w v) given h = cc
-  in_decl (PlainDecl.Header n fs) given h = cc
-  in_decl (PlainDecl.Headers ms) given h = cc
-  in_decl (PlainDecl.Meta fs) given h = cc
-  in_decl (PlainDecl.Register n w c s) given h = cc
-  in_decl (PlainDecl.Parser n ss) given h = cc
-  in_decl (PlainDecl.Deparser n es) given h = cc
-  in_decl (PlainDecl.Main p c d) given h = cc
+  in_decl other given h = cc
 
   pub local_at : (ds : List PlainDecl) (given : B) → found gives (locals_of ds) ≡ Some given → LocalAt gives ds given
   local_at [] given h = cc

@@ -117,10 +117,7 @@ wide_outcome Arithmetic Ty.Truth b h k = refl
 
 wide_turned : (s : Sort) (a : Ty) → wide a ≡ true → wide (turned_type s a) ≡ true
 wide_turned Logic a h = refl
-wide_turned Comparison a h = h
-wide_turned Shift a h = h
-wide_turned Joining a h = h
-wide_turned Arithmetic a h = h
+wide_turned other a h = h
 
 cut_wide : (high low : ℕ) (t : Ty) → wide t ≡ true → has_width t ≡ true → is_truth t ≡ false → is_cut high low t ≡ true → is_width (high + 1 - low) ≡ true
 cut_wide high low (Bits w) h k m c =
@@ -137,11 +134,8 @@ cut_wide high low Ty.Truth h k m c = absurd (true≢false m)
 
 pub typed_wide : (allow : Bool) (s : Scope) → WideScope s → (e : PlainExpr) (giver : Ty) → first_broken allow (asks_expr s e giver) ≡ None → wide (type_of (names_at s) e) ≡ true
 typed_wide allow s ws (PlainExpr.Num (Some width) number) giver h = (head_met allow (Wide width) (Fits number (Bits width) ∷ []) h).0
-typed_wide allow s ws (PlainExpr.Num None number) giver h = refl
-typed_wide allow s ws (PlainExpr.Truth value) giver h = refl
 typed_wide allow s ws (PlainExpr.Named name) giver h = ws.named name
 typed_wide allow s ws (PlainExpr.At place) giver h = ws.places place
-typed_wide allow s ws (PlainExpr.IsValid header) giver h = refl
 typed_wide allow s ws (PlainExpr.Unary op of) giver h =
     let sort = sort_of (operator_of op) in
     wide_turned sort (type_of (names_at s) of) (typed_wide allow s ws of (turned_giver sort giver) (parts allow (asks_expr s of (turned_giver sort giver)) (asks_turned sort (type_of (names_at s) of)) h).0)
@@ -160,4 +154,4 @@ typed_wide allow s ws (PlainExpr.Slice of high low) giver h =
     let second = head_met allow (HasWidth t) (Cut high low t ∷ []) first.1 in
     let third = head_met allow (Cut high low t) [] second.1 in
     cut_wide high low t (typed_wide allow s ws of Bare p.0) second.0 (not-true (is_truth t) first.0) third.0
-typed_wide allow s ws (PlainExpr.Hash k of modulus) giver h = refl
+typed_wide allow s ws other giver h = refl

@@ -5,8 +5,11 @@ use Rattle.std.specs.Prelude.{if◌then◌else◌, slice_get, Contains}
 use Rattle.elastic_ast.specs.declared.rule.Rule.{Rule}
 use Rattle.elastic_ast.specs.Tree.{PlainDecl}
 use Rattle.elastic_ast.specs.Typing.Demand.{Demand, met, rule_of}
+unfoldable pub use Rattle.elastic_ast.specs.Typing.Demand.{fixed_names}
+unfoldable pub use Rattle.elastic_ast.specs.Typing.LookUps.{std_fields}
 use Rattle.elastic_ast.specs.Typing.Asked.{asked}
-use Rattle.elastic_ast.specs.Typing.Typed.{BreaksWhole, Breaks, Typed, broken_rule, first_of}
+use Rattle.elastic_ast.specs.Typing.Typed.{BreaksWhole, Breaks, Typed, first_of}
+unfoldable pub use Rattle.elastic_ast.specs.Typing.Typed.{broken_rule}
 use Rattle.elastic_laws.specs.Examples.WorkedTyping.{BreaksOnly}
 use Rattle.elastic_ast.proofs.Typing.TypedLaws.{walk_names, walk_passes}
 use Rattle.elastic_laws.proofs.Typing.WholeLaws.{WholeBut, whole_but, whole_is_met, whole_met, meets_whole}

@@ -153,15 +153,7 @@ lacks_main ds (PlainDecl.Parser name states) h = h
 lacks_main ds (PlainDecl.Control name locals body) h = h
 lacks_main ds (PlainDecl.Deparser name emits) h = h
 lacks_main ds (PlainDecl.Main parser control deparser) h = h
-lacks_main ds (PlainDecl.Include n) h = true≢false h
-lacks_main ds (PlainDecl.Symbol n) h = true≢false h
-lacks_main ds (PlainDecl.Assume cs) h = true≢false h
-lacks_main ds (PlainDecl.Maximize ts) h = true≢false h
-lacks_main ds (PlainDecl.Const n w v) h = true≢false h
-lacks_main ds (PlainDecl.Header n fs) h = true≢false h
-lacks_main ds (PlainDecl.Headers ms) h = true≢false h
-lacks_main ds (PlainDecl.Meta fs) h = true≢false h
-lacks_main ds (PlainDecl.Register n w c s) h = true≢false h
+lacks_main ds other h = true≢false h
 
 -- Each rule of the whole program is met, or it is the one that is broken.
 pub record WholeBut (ds : List PlainDecl) (but : Rule) : Type 0 where

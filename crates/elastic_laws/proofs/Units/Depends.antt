@@ -55,9 +55,6 @@ pub register_spot : (r : RegRef) (i : Option ℕ) → spot_of (register_location
 register_spot r i = refl
 
 pub value_depends : (test : Spot → Bool) (e : PlainExpr) (w : Setting) (s t : Memory) (giver : Ty) → Within test w.index (expr_reads e) → Agree test s t → value w s e giver ≡ value w t e giver
-value_depends test (PlainExpr.Num width number) w s t giver h a = refl
-value_depends test (PlainExpr.Truth b) w s t giver h a = refl
-value_depends test (PlainExpr.Named n) w s t giver h a = refl
 value_depends test (PlainExpr.At l) w s t giver h a = ap (λ v. v.1) (lval_depends test l w.index s t h.0 a)
 value_depends test (PlainExpr.IsValid header) w s t giver h a = ap (λ v. v.1) (a (At (valid_place header)) h.0)
 value_depends test (PlainExpr.Unary op of) w s t giver h a =
@@ -73,6 +70,7 @@ value_depends test (PlainExpr.Cast width of) w s t giver h a = ap (words.cast wi
 value_depends test (PlainExpr.Slice of high low) w s t giver h a = ap (words.slice high low) (value_depends test of w s t Bare h a)
 value_depends test (PlainExpr.Hash k of modulus) w s t giver h a =
     ap (λ v. hashed (count_value w k) v (amount_value w modulus)) (value_depends test of w s t Bare h a)
+value_depends test other w s t giver h a = refl
 
 pub holds_depends : (test : Spot → Bool) (e : PlainExpr) (w : Setting) (s t : Memory) → Within test w.index (expr_reads e) → Agree test s t → holds w s e ≡ holds w t e
 holds_depends test e w s t h a = ap is_true (value_depends test e w s t Bare h a)
@@ -95,13 +93,7 @@ plain_depends test (PlainStmt.Write r c v) w s t h a =
     ∙ ap₂ (λ n m. store r.name (register_index r w.index) (slice_set (cells_at w t r) n m))
     (value_depends test c w s t (Bits 32) (within_left test w.index (expr_reads c) (expr_reads v ++ register_location r ∷ []) h) a)
     (value_depends test v w s t ty (within_left test w.index (expr_reads v) (register_location r ∷ []) tail) a)
-plain_depends test (PlainStmt.Valid header on) w s t h a = refl
-plain_depends test (PlainStmt.Block stage body) w s t h a = refl
-plain_depends test (PlainStmt.If c body) w s t h a = refl
-plain_depends test (PlainStmt.IfElse c body other) w s t h a = refl
-plain_depends test (PlainStmt.For i n body) w s t h a = refl
-plain_depends test (PlainStmt.Call n i es) w s t h a = refl
-plain_depends test (PlainStmt.Apply n) w s t h a = refl
+plain_depends test other w s t h a = refl
 
 pub over_agrees : (test : Spot → Bool) (d e : Writes) (s t : Memory) → d ≡ e → Agree test s t → Agree test (over d s) (over e t)
 over_agrees test d e s t h a spot q = ap₂ written_or (ap (λ w. w spot) h) (a spot q)
@@ -196,8 +188,4 @@ leaf_depends test (PlainStmt.Apply table) decls sizes i s t h a = table_depends 
 leaf_depends test (PlainStmt.Assign to e) decls sizes i s t h a = plain_depends test (PlainStmt.Assign to e) (outside decls sizes i) s t h a
 leaf_depends test (PlainStmt.Read to r c) decls sizes i s t h a = plain_depends test (PlainStmt.Read to r c) (outside decls sizes i) s t h a
 leaf_depends test (PlainStmt.Write r c v) decls sizes i s t h a = plain_depends test (PlainStmt.Write r c v) (outside decls sizes i) s t h a
-leaf_depends test (PlainStmt.Valid header on) decls sizes i s t h a = refl
-leaf_depends test (PlainStmt.Block stage body) decls sizes i s t h a = refl
-leaf_depends test (PlainStmt.If c body) decls sizes i s t h a = refl
-leaf_depends test (PlainStmt.IfElse c body other) decls sizes i s t h a = refl
-leaf_depends test (PlainStmt.For j n body) decls sizes i s t h a = refl
+leaf_depends test other decls sizes i s t h a = refl

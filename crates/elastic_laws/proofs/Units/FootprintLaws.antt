@@ -4,7 +4,7 @@ use Rattle.std.specs.Option.{option_eq}
 use Rattle.std.specs.Prelude.{IfSome}
 use Rattle.std.proofs.lemmas.Bool.{or_left, or_right, or_parts, or_cases, eqb-true, eq-eqb, and_parts}
 use Rattle.std.proofs.lemmas.Slice.Eq.{bytes_eq-Decides}
-use Rattle.elx_bits.specs.Words.{Word}
+use Rattle.elx_bits.specs.Words.{BitWord}
 use Rattle.elastic_ast.specs.declared.flat.Lit.{Lit}
 use Rattle.elastic_ast.specs.declared.flat.Location.{Location}
 use Rattle.elastic_ast.specs.declared.flat.Location.TheVariants as location
@@ -43,7 +43,7 @@ none_right i l (x ∷ xs) ys h = none_right i l xs ys (or_parts (same_spot (spot
 none_first : (i : Option ℕ) (l : Spot) (x : Location) (xs : List Location) → covers (x ∷ xs) i l ≡ false → same_spot (spot_of x i) l ≡ false
 none_first i l x xs h = (or_parts (same_spot (spot_of x i) l) (covers xs i l) h).0
 
-put_inside : (p : List ℕ) (v : Word) (l : Spot) → same_spot (At p) l ≡ false → put p v l ≡ None
+put_inside : (p : List ℕ) (v : BitWord) (l : Spot) → same_spot (At p) l ≡ false → put p v l ≡ None
 put_inside p v (At q) h = ap (λ b. if b then Some v else None) h
 put_inside p v (Reg n i) h = refl
 
@@ -62,12 +62,7 @@ plain_inside (PlainStmt.Read to r c) w s l h =
 plain_inside (PlainStmt.Write r c v) w s l h =
     store_inside r.name (register_index r w.index) (slice_set (cells_at w s r) (value w s c (Bits 32)) (value w s v (of_width (register_width w.decls r.name)))) l (ap (λ x. same_spot x l) (sym (register_spot r w.index)) ∙ none_first w.index l (register_location r) [] h)
 plain_inside (PlainStmt.Valid header on) w s l h = put_inside (valid_place header) (1, bit on) l (none_first w.index l (location.Valid header) [] h)
-plain_inside (PlainStmt.Block stage body) w s l h = refl
-plain_inside (PlainStmt.If c body) w s l h = refl
-plain_inside (PlainStmt.IfElse c body other) w s l h = refl
-plain_inside (PlainStmt.For j n body) w s l h = refl
-plain_inside (PlainStmt.Call n j es) w s l h = refl
-plain_inside (PlainStmt.Apply n) w s l h = refl
+plain_inside other w s l h = refl
 
 body_inside : (xs : PlainStmts) (w : Setting) (s : Memory) (l : Spot) → covers (body_assigns xs) w.index l ≡ false → body_writes w s xs l ≡ None
 body_inside PlainStmts.nil w s l h = refl
@@ -125,10 +120,7 @@ leaf_inside (PlainStmt.Assign to e) decls sizes i s l fit h = plain_inside (Plai
 leaf_inside (PlainStmt.Read to r c) decls sizes i s l fit h = plain_inside (PlainStmt.Read to r c) (outside decls sizes i) s l h
 leaf_inside (PlainStmt.Write r c v) decls sizes i s l fit h = plain_inside (PlainStmt.Write r c v) (outside decls sizes i) s l h
 leaf_inside (PlainStmt.Valid header on) decls sizes i s l fit h = plain_inside (PlainStmt.Valid header on) (outside decls sizes i) s l h
-leaf_inside (PlainStmt.Block stage body) decls sizes i s l fit h = refl
-leaf_inside (PlainStmt.If c body) decls sizes i s l fit h = refl
-leaf_inside (PlainStmt.IfElse c body other) decls sizes i s l fit h = refl
-leaf_inside (PlainStmt.For j n body) decls sizes i s l fit h = refl
+leaf_inside other decls sizes i s l fit h = refl
 
 work_inside : (work : PlainWork) (decls : List PlainDecl) (sizes : List ℕ) (i : Option ℕ) (s : Memory) (l : Spot) → TablesFit decls → covers (work_assigns decls (is_some i) work) i l ≡ false → work_writes work decls sizes i s l ≡ None
 work_inside (Plain x) decls sizes i s l fit h = leaf_inside x decls sizes i s l fit h
@@ -186,14 +178,7 @@ within_leaf : (test : Spot → Bool) (decls : List PlainDecl) (i : Option ℕ) (
 within_leaf test decls i (PlainStmt.Call action at args) fit h =
     (within_left test i (exprs_read args) (action_reads (action_of decls action)) h, within_right test i (exprs_read args) (action_reads (action_of decls action)) h)
 within_leaf test decls i (PlainStmt.Apply table) fit h = within_table test decls i (table_of decls table) (fit table) h
-within_leaf test decls i (PlainStmt.Assign to e) fit h = h
-within_leaf test decls i (PlainStmt.Read to r c) fit h = h
-within_leaf test decls i (PlainStmt.Write r c v) fit h = h
-within_leaf test decls i (PlainStmt.Valid header on) fit h = h
-within_leaf test decls i (PlainStmt.Block stage body) fit h = h
-within_leaf test decls i (PlainStmt.If c body) fit h = h
-within_leaf test decls i (PlainStmt.IfElse c body other) fit h = h
-within_leaf test decls i (PlainStmt.For j n body) fit h = h
+within_leaf test decls i other fit h = h
 
 lits_depend : (test : Spot → Bool) (ls : List Lit) (i : Option ℕ) (s t : Memory) → Within test i (lits_read ls) → Agree test s t → lits_hold ls i s ≡ lits_hold ls i t
 lits_depend test [] i s t h a = refl

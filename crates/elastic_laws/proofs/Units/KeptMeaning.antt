@@ -2,7 +2,7 @@
 use Rattle.std.proofs.Common.{◌≡◌, ◌≢◌, ℕ, zero, suc, ◌+◌, ◌<◌, ◌≤◌, ◌==◌, ◌&&◌, nat_eq, Bool, true, false, List, [], ◌∷◌, Option, Some, None, is_some, refl, sym, ap, ◌∙◌, subst, arith, if◌then◌else◌}
 use Rattle.std.proofs.lemmas.Bool.{true≢false, false_from_ne_true, and_right, eqb-true, eq-eqb}
 use Rattle.std.proofs.lemmas.Slice.Eq.{bytes_eq-Decides}
-use Rattle.elx_bits.specs.Words.{Word}
+use Rattle.elx_bits.specs.Words.{BitWord}
 use Rattle.elastic_ast.specs.declared.flat.Lit.{Lit}
 use Rattle.elastic_ast.specs.declared.flat.Location.TheVariants as location
 use Rattle.elastic_ast.specs.Tree.{Name, PlainDecl, PlainExpr, PlainStmt, PlainStmts}
@@ -24,10 +24,8 @@ use Rattle.elastic_laws.proofs.Units.SamePieces.{same_refl, same_trans, same_ove
 
 -- the predicates that are written have number k or above
 abbrev WritesFrom : ℕ → PlainWork → Type 0
-WritesFrom k (Plain x) = Unit {0}
-WritesFrom k (Call x) = Unit {0}
-WritesFrom k (Apply n) = Unit {0}
 WritesFrom k (Pred m c) = k ≤ m
+WritesFrom k other = Unit {0}
 
 abbrev From : ℕ → Cuts → Type 0
 From k Nil = Unit {0}
@@ -58,7 +56,7 @@ work_keeps k (Call x) decls sizes i s m own j f h = leaf_pred x decls sizes i s 
 work_keeps k (Apply n) decls sizes i s m own j f h = leaf_pred (PlainStmt.Apply n) decls sizes i s m own j
 work_keeps k (Pred n c) decls sizes i s m own j f h =
     let ne : n ≢ m = omega arith in
-    let v : Word = (1, bit (holds (outside decls sizes i) s c)) in
+    let v : BitWord = (1, bit (holds (outside decls sizes i) s c)) in
     ap (λ b. if b then Some v else None) (other_pred n m (is_some i) own (index_at (is_some i) i) j ne)
 
 if_keeps : (b : Bool) (d : Writes) (l : Spot) → d l ≡ None → writes_if b d l ≡ None
@@ -76,55 +74,48 @@ turns_keep : (k n : ℕ) (f : ℕ → Memory → Memory) → ((j : ℕ) (t : Mem
 turns_keep k zero f h s = record { pred = λ m own j l. refl }
 turns_keep k (suc n) f h s = record { pred = λ m own j l. (h n (turns n f s)).pred m own j l ∙ (turns_keep k n f h s).pred m own j l }
 
--- no loop among the pieces
-abbrev pub NoLoop : Cuts → Type 0
-NoLoop Nil = Unit {0}
-NoLoop (One u r) = NoLoop r
-NoLoop (Loop i y b r) = ⊥
+-- no loop in a loop among the pieces, and no loop at all where they stand in one
+abbrev pub Flat : Bool → Cuts → Type 0
+Flat own Nil = Unit {0}
+Flat own (One u r) = Flat own r
+Flat own (Loop i y b r) = (own ≡ false) × Flat true b × Flat own r
 
-pub NoLoop-append : (a b : Cuts) → NoLoop a → NoLoop b → NoLoop (append a b)
-NoLoop-append Nil b ha hb = hb
-NoLoop-append (One u r) b ha hb = NoLoop-append r b ha hb
-NoLoop-append (Loop i y c r) b ha hb = absurd ha
+Flat-append : (own : Bool) (a b : Cuts) → Flat own a → Flat own b → Flat own (append a b)
+Flat-append own Nil b ha hb = hb
+Flat-append own (One u r) b ha hb = Flat-append own r b ha hb
+Flat-append own (Loop i y c r) b ha hb = (ha.0, ha.1, Flat-append own r b ha.2 hb)
 
-pub NoLoop-with_lit : (l : Lit) (a : Cuts) → NoLoop a → NoLoop (with_lit l a)
-NoLoop-with_lit l Nil h = tt
-NoLoop-with_lit l (One u r) h = NoLoop-with_lit l r h
-NoLoop-with_lit l (Loop i y c r) h = absurd h
+Flat-with_lit : (own : Bool) (l : Lit) (a : Cuts) → Flat own a → Flat own (with_lit l a)
+Flat-with_lit own l Nil h = tt
+Flat-with_lit own l (One u r) h = Flat-with_lit own l r h
+Flat-with_lit own l (Loop i y c r) h = (h.0, Flat-with_lit true l c h.1, Flat-with_lit own l r h.2)
 
-NoLoop-branched : (c : PlainExpr) (own : Bool) (k : ℕ) (g : Option ℕ) (a b : Cuts) → NoLoop a → NoLoop b → NoLoop (branched c own k g a b)
-NoLoop-branched c own k g a b ha hb =
-    NoLoop-append (with_lit (literal k own true) a) (with_lit (literal k own false) b) (NoLoop-with_lit (literal k own true) a ha) (NoLoop-with_lit (literal k own false) b hb)
+Flat-branched : (c : PlainExpr) (own : Bool) (k : ℕ) (g : Option ℕ) (a b : Cuts) → Flat own a → Flat own b → Flat own (branched c own k g a b)
+Flat-branched c own k g a b ha hb =
+    Flat-append own (with_lit (literal k own true) a) (with_lit (literal k own false) b) (Flat-with_lit own (literal k own true) a ha) (Flat-with_lit own (literal k own false) b hb)
 
-NoLoop-guarded : (o : Option Piece) (c : PlainExpr) (own : Bool) (k : ℕ) (g : Option ℕ) (a : Cuts) → NoLoop a → NoLoop (guarded o c own k g a)
-NoLoop-guarded (Some u) c own k g a h = tt
-NoLoop-guarded None c own k g a h = NoLoop-branched c own k g a Nil h tt
+Flat-guarded : (o : Option Piece) (c : PlainExpr) (own : Bool) (k : ℕ) (g : Option ℕ) (a : Cuts) → Flat own a → Flat own (guarded o c own k g a)
+Flat-guarded (Some u) c own k g a h = tt
+Flat-guarded None c own k g a h = Flat-branched c own k g a Nil h tt
 
 mutual
-  no_loop : (x : PlainStmt) (k : ℕ) (g : Option ℕ) → UnnestedStmt x true → NoLoop (cut x true k g)
-  no_loop (PlainStmt.Block o b) k g h = no_loop_all b k (scope.or_else o g) h
-  no_loop (PlainStmt.If c b) k g h = NoLoop-guarded (single (cut_all b true k g)) c true k g (cut_all b true (suc k) g) (no_loop_all b (suc k) g h)
-  no_loop (PlainStmt.IfElse c b d) k g h =
-      NoLoop-branched c true k g (cut_all b true (suc k) g) (cut_all d true (suc k + tests (cut_all b true (suc k) g)) g) (no_loop_all b (suc k) g h.0) (no_loop_all d (suc k + tests (cut_all b true (suc k) g)) g h.1)
-  no_loop (PlainStmt.For i y b) k g h = absurd (true≢false h.0)
-  no_loop (PlainStmt.Assign to e) k g h = tt
-  no_loop (PlainStmt.Read to r c) k g h = tt
-  no_loop (PlainStmt.Write r c v) k g h = tt
-  no_loop (PlainStmt.Valid n on) k g h = tt
-  no_loop (PlainStmt.Call n j es) k g h = tt
-  no_loop (PlainStmt.Apply n) k g h = tt
+  flat : (x : PlainStmt) (own : Bool) (k : ℕ) (g : Option ℕ) → UnnestedStmt x own → Flat own (cut x own k g)
+  flat (PlainStmt.Block o b) own k g h = flat_all b own k (scope.or_else o g) h
+  flat (PlainStmt.If c b) own k g h = Flat-guarded (single (cut_all b own k g)) c own k g (cut_all b own (suc k) g) (flat_all b own (suc k) g h)
+  flat (PlainStmt.IfElse c b d) own k g h =
+      Flat-branched c own k g (cut_all b own (suc k) g) (cut_all d own (suc k + tests (cut_all b own (suc k) g)) g) (flat_all b own (suc k) g h.0) (flat_all d own (suc k + tests (cut_all b own (suc k) g)) g h.1)
+  flat (PlainStmt.For i y b) own k g h = (h.0, flat_all b true k g h.1, tt)
+  flat other own k g h = tt
 
-  pub no_loop_all : (b : PlainStmts) (k : ℕ) (g : Option ℕ) → Unnested b true → NoLoop (cut_all b true k g)
-  no_loop_all PlainStmts.nil k g h = tt
-  no_loop_all (PlainStmts.cons x r) k g h =
-      NoLoop-append (cut x true k g) (cut_all r true (k + tests (cut x true k g)) g) (no_loop x k g h.0) (no_loop_all r (k + tests (cut x true k g)) g h.1)
+  pub flat_all : (b : PlainStmts) (own : Bool) (k : ℕ) (g : Option ℕ) → Unnested b own → Flat own (cut_all b own k g)
+  flat_all PlainStmts.nil own k g h = tt
+  flat_all (PlainStmts.cons x r) own k g h =
+      Flat-append own (cut x own k g) (cut_all r own (k + tests (cut x own k g)) g) (flat x own k g h.0) (flat_all r own (k + tests (cut x own k g)) g h.1)
 
 -- the numbers
 work_from : (j k : ℕ) (w : PlainWork) → j ≤ k → WritesFrom k w → WritesFrom j w
-work_from j k (Plain x) h f = tt
-work_from j k (Call x) h f = tt
-work_from j k (Apply n) h f = tt
 work_from j k (Pred m c) h f = omega arith
+work_from j k other h f = tt
 
 From-lower : (j k : ℕ) (a : Cuts) → j ≤ k → From k a → From j a
 From-lower j k Nil h f = tt
@@ -173,12 +164,7 @@ mutual
       let k' : ℕ = suc k + tests (cut_all b own (suc k) g) in
       From-branched c own k g (cut_all b own (suc k) g) (cut_all d own k' g) (From-lower k (suc k) (cut_all b own (suc k) g) (omega arith) (from_all b own (suc k) g)) (From-lower k k' (cut_all d own k' g) (omega arith) (from_all d own k' g))
   from_stmt (PlainStmt.For i y b) own k g = (from_all b true k g, tt)
-  from_stmt (PlainStmt.Assign to e) own k g = (tt, tt)
-  from_stmt (PlainStmt.Read to r c) own k g = (tt, tt)
-  from_stmt (PlainStmt.Write r c v) own k g = (tt, tt)
-  from_stmt (PlainStmt.Valid n on) own k g = (tt, tt)
-  from_stmt (PlainStmt.Call n j es) own k g = (tt, tt)
-  from_stmt (PlainStmt.Apply n) own k g = (tt, tt)
+  from_stmt other own k g = (tt, tt)
 
   from_all : (b : PlainStmts) (own : Bool) (k : ℕ) (g : Option ℕ) → From k (cut_all b own k g)
   from_all PlainStmts.nil own k g = tt
@@ -187,10 +173,8 @@ mutual
 
 -- a literal that holds, and one that doesn't
 put_on : (l : Lit) (w : PlainWork) (u : Piece) (decls : List PlainDecl) (sizes : List ℕ) (i : Option ℕ) (s : Memory) → lit_holds l i s ≡ true → worked (lit_put l w u) decls sizes i s ≡ worked u decls sizes i s
-put_on l (Plain x) u decls sizes i s h = ap (λ b. over (writes_if ((b && lits_hold u.lits i s) && conds_hold u.conds decls sizes i s) (work_writes u.work decls sizes i s)) s) h
-put_on l (Call x) u decls sizes i s h = ap (λ b. over (writes_if ((b && lits_hold u.lits i s) && conds_hold u.conds decls sizes i s) (work_writes u.work decls sizes i s)) s) h
-put_on l (Apply n) u decls sizes i s h = ap (λ b. over (writes_if ((b && lits_hold u.lits i s) && conds_hold u.conds decls sizes i s) (work_writes u.work decls sizes i s)) s) h
 put_on l (Pred m c) u decls sizes i s h = refl
+put_on l other u decls sizes i s h = ap (λ b. over (writes_if ((b && lits_hold u.lits i s) && conds_hold u.conds decls sizes i s) (work_writes u.work decls sizes i s)) s) h
 
 -- a write of a predicate is seen at predicates alone
 apart_from_pred : (place : List ℕ) (rest : List ℕ) → is_predicate (At place) ≡ false → same (4 ∷ rest) place ≡ false
@@ -204,7 +188,7 @@ apart_from_pred (kind ∷ more) rest h = go (nat_eq 4 kind) refl
         let is : (kind == 4) ≡ true = eq-eqb kind 4 (sym four) in
         cc
 
-pred_write : (k : ℕ) (own : Bool) (i : Option ℕ) (v : Word) (s : Memory) → Same (over (put (pred_place k own i) v) s) s
+pred_write : (k : ℕ) (own : Bool) (i : Option ℕ) (v : BitWord) (s : Memory) → Same (over (put (pred_place k own i) v) s) s
 pred_write k own i v s = record { elsewhere = there }
   where
     there : (l : Spot) → is_predicate l ≡ false → over (put (pred_place k own i) v) s l ≡ s l
@@ -221,11 +205,9 @@ skipped l u decls sizes i s h =
     subst (λ b. Same (over (writes_if ((b && lits_hold u.lits i s) && conds_hold u.conds decls sizes i s) (work_writes u.work decls sizes i s)) s) s) (sym h) (same_refl s)
 
 put_off : (l : Lit) (w : PlainWork) (u : Piece) (decls : List PlainDecl) (sizes : List ℕ) (i : Option ℕ) (s : Memory) → u.work ≡ w → lit_holds l i s ≡ false → Same (worked (lit_put l w u) decls sizes i s) s
-put_off l (Plain x) u decls sizes i s e h = skipped l u decls sizes i s h
-put_off l (Call x) u decls sizes i s e h = skipped l u decls sizes i s h
-put_off l (Apply n) u decls sizes i s e h = skipped l u decls sizes i s h
 put_off l (Pred m c) u decls sizes i s e h =
     subst (λ w. Same (over (writes_if (lits_hold u.lits i s && conds_hold u.conds decls sizes i s) (work_writes w decls sizes i s)) s) s) (sym e) (test_writes (lits_hold u.lits i s && conds_hold u.conds decls sizes i s) m c decls sizes i s)
+put_off l other u decls sizes i s e h = skipped l u decls sizes i s h
 
 lit_kept : (l : Lit) (i : Option ℕ) (s t : Memory) (b : Bool) → Keeps (suc l.number) s t → lit_holds l i s ≡ b → lit_holds l i t ≡ b
 lit_kept l i s t b k h = ap (λ v. v.1 == bit l.on) (k.pred l.number l.own (index_at l.own i) (omega arith)) ∙ h
@@ -267,21 +249,21 @@ module _ (decls : List PlainDecl) (sizes : List ℕ) where
   run_append (One u r) b i s = run_append r b i (worked u decls sizes i s)
   run_append (Loop n y c r) b i s = run_append r b i (turns (size_at y) (λ j u. run_cuts c decls sizes (Some j) u) s)
 
-  with_on : (cs : Cuts) (l : Lit) → From (suc l.number) cs → (l.own ≡ true → NoLoop cs) → (i : Option ℕ) (s : Memory) → lit_holds l i s ≡ true → run_cuts (with_lit l cs) decls sizes i s ≡ run_cuts cs decls sizes i s
+  with_on : (cs : Cuts) (l : Lit) → From (suc l.number) cs → (l.own ≡ true → Flat true cs) → (i : Option ℕ) (s : Memory) → lit_holds l i s ≡ true → run_cuts (with_lit l cs) decls sizes i s ≡ run_cuts cs decls sizes i s
   with_on Nil l f nl i s h = refl
   with_on (One u r) l f nl i s h =
       let t : Memory = worked u decls sizes i s in
       ap (λ d. run_cuts (with_lit l r) decls sizes i d) (put_on l u.work u decls sizes i s h)
       ∙ with_on r l f.1 nl i t (lit_kept l i s t true (piece_keeps (suc l.number) u decls sizes i s f.0) h)
   with_on (Loop n y b r) l f nl i s h =
-      let own : l.own ≡ false = false_from_ne_true l.own nl in
-      let none : l.own ≡ true → NoLoop b = λ e. absurd (nl e) in
-      let none' : l.own ≡ true → NoLoop r = λ e. absurd (nl e) in
+      let own : l.own ≡ false = false_from_ne_true l.own (λ e. true≢false (nl e).0) in
+      let none : l.own ≡ true → Flat true b = λ e. absurd (true≢false (nl e).0) in
+      let none' : l.own ≡ true → Flat true r = λ e. absurd (true≢false (nl e).0) in
       let all = turns_on l i (λ j t. run_cuts (with_lit l b) decls sizes (Some j) t) (λ j t. run_cuts b decls sizes (Some j) t) (λ j t k. with_on b l f.0 none (Some j) t (lit_moved l (Some j) i t own ∙ k)) (λ j t. run_keeps b (suc l.number) (Some j) t f.0) (size_at y) s h in
       ap (run_cuts (with_lit l r) decls sizes i) all.0
       ∙ with_on r l f.1 none' i (turns (size_at y) (λ j t. run_cuts b decls sizes (Some j) t) s) all.1
 
-  with_off : (cs : Cuts) (l : Lit) → From (suc l.number) cs → (l.own ≡ true → NoLoop cs) → (i : Option ℕ) (s : Memory) → lit_holds l i s ≡ false → Same (run_cuts (with_lit l cs) decls sizes i s) s
+  with_off : (cs : Cuts) (l : Lit) → From (suc l.number) cs → (l.own ≡ true → Flat true cs) → (i : Option ℕ) (s : Memory) → lit_holds l i s ≡ false → Same (run_cuts (with_lit l cs) decls sizes i s) s
   with_off Nil l f nl i s h = same_refl s
   with_off (One u r) l f nl i s h =
       let t : Memory = worked (lit_put l u.work u) decls sizes i s in
@@ -289,9 +271,9 @@ module _ (decls : List PlainDecl) (sizes : List ℕ) where
       (with_off r l f.1 nl i t (lit_kept l i s t false (piece_keeps (suc l.number) (lit_put l u.work u) decls sizes i s (lit_put_from (suc l.number) l u.work u f.0)) h))
       (put_off l u.work u decls sizes i s refl h)
   with_off (Loop n y b r) l f nl i s h =
-      let own : l.own ≡ false = false_from_ne_true l.own nl in
-      let none : l.own ≡ true → NoLoop b = λ e. absurd (nl e) in
-      let none' : l.own ≡ true → NoLoop r = λ e. absurd (nl e) in
+      let own : l.own ≡ false = false_from_ne_true l.own (λ e. true≢false (nl e).0) in
+      let none : l.own ≡ true → Flat true b = λ e. absurd (true≢false (nl e).0) in
+      let none' : l.own ≡ true → Flat true r = λ e. absurd (true≢false (nl e).0) in
       let g : ℕ → Memory → Memory = λ j t. run_cuts (with_lit l b) decls sizes (Some j) t in
       let all = turns_off l i g (λ j t k. with_off b l f.0 none (Some j) t (lit_moved l (Some j) i t own ∙ k)) (λ j t. run_keeps (with_lit l b) (suc l.number) (Some j) t (From-with_lit (suc l.number) l b f.0)) (size_at y) s h in
       same_trans (run_cuts (with_lit l r) decls sizes i (turns (size_at y) g s)) (turns (size_at y) g s) s (with_off r l f.1 none' i (turns (size_at y) g s) all.1) all.0
@@ -314,7 +296,7 @@ module _ (decls : List PlainDecl) (sizes : List ℕ) where
           subst (λ v. Same (result v) (if holds (outside decls sizes i) t c then done else t)) (sym e) (subst (λ v. Same (result false) (if v then done else t)) (sym e ∙ same_cond) skip)
 
   -- a condition that is kept, and the pieces of both branches
-  two_same : (c : PlainExpr) (i : Option ℕ) (k : ℕ) (stage : Option ℕ) (a b : Cuts) (s t : Memory) (f g : Memory → Memory) → Same s t → From (suc k) a → From (suc k) b → (is_some i ≡ true → NoLoop a) → (is_some i ≡ true → NoLoop b) → ((u v : Memory) → Same u v → Same (run_cuts a decls sizes i u) (f v)) → ((u v : Memory) → Same u v → Same (run_cuts b decls sizes i u) (g v)) → Same (run_cuts (branched c (is_some i) k stage a b) decls sizes i s) (if holds (outside decls sizes i) t c then f t else g t)
+  two_same : (c : PlainExpr) (i : Option ℕ) (k : ℕ) (stage : Option ℕ) (a b : Cuts) (s t : Memory) (f g : Memory → Memory) → Same s t → From (suc k) a → From (suc k) b → (is_some i ≡ true → Flat true a) → (is_some i ≡ true → Flat true b) → ((u v : Memory) → Same u v → Same (run_cuts a decls sizes i u) (f v)) → ((u v : Memory) → Same u v → Same (run_cuts b decls sizes i u) (g v)) → Same (run_cuts (branched c (is_some i) k stage a b) decls sizes i s) (if holds (outside decls sizes i) t c then f t else g t)
   two_same c i k stage a b s t f g alike fa fb na nb first second =
       subst (λ m. Same m (if holds (outside decls sizes i) t c then f t else g t)) (sym (run_append (with_lit on a) (with_lit off b) i tested)) (go (holds (outside decls sizes i) s c) refl)
     where
@@ -327,7 +309,7 @@ module _ (decls : List PlainDecl) (sizes : List ℕ) where
       here : List ℕ
       here = pred_place k (is_some i) i
 
-      word : Bool → Word
+      word : Bool → BitWord
       word v = (1, bit v)
 
       tested : Memory
@@ -360,7 +342,7 @@ module _ (decls : List PlainDecl) (sizes : List ℕ) where
           let skip : Same mid t = same_trans mid tested t (with_off a on fa na i tested not_on) (same_trans tested s t tested_same alike) in
           subst (λ v. Same (run_cuts (with_lit off b) decls sizes i mid) (if v then f t else g t)) (sym e ∙ same_cond) (subst (λ m. Same m (g t)) (sym (with_on b off fb nb i mid is_off)) (second mid t skip))
 
-  if_same : (o : Option Piece) (cs : Cuts) (c : PlainExpr) (i : Option ℕ) (k : ℕ) (stage : Option ℕ) (a : Cuts) (s t : Memory) (f : Memory → Memory) → single cs ≡ o → Same s t → Same (run_cuts cs decls sizes i s) (f t) → From (suc k) a → (is_some i ≡ true → NoLoop a) → ((u v : Memory) → Same u v → Same (run_cuts a decls sizes i u) (f v)) → Same (run_cuts (guarded o c (is_some i) k stage a) decls sizes i s) (if holds (outside decls sizes i) t c then f t else t)
+  if_same : (o : Option Piece) (cs : Cuts) (c : PlainExpr) (i : Option ℕ) (k : ℕ) (stage : Option ℕ) (a : Cuts) (s t : Memory) (f : Memory → Memory) → single cs ≡ o → Same s t → Same (run_cuts cs decls sizes i s) (f t) → From (suc k) a → (is_some i ≡ true → Flat true a) → ((u v : Memory) → Same u v → Same (run_cuts a decls sizes i u) (f v)) → Same (run_cuts (guarded o c (is_some i) k stage a) decls sizes i s) (if holds (outside decls sizes i) t c then f t else t)
   if_same (Some u) cs c i k stage a s t f h alike one fa na first =
       one_same u c i s t (f t) alike (subst (λ l. Same (run_cuts l decls sizes i s) (f t)) (single_is cs u h) one)
   if_same None cs c i k stage a s t f h alike one fa na first =
@@ -371,13 +353,13 @@ module _ (decls : List PlainDecl) (sizes : List ℕ) where
     stmt_same (PlainStmt.Block o b) i k stage s t u a = all_same b i k (scope.or_else o stage) s t u a
     stmt_same (PlainStmt.If c b) i k stage s t u a =
         if_same (single (cut_all b (is_some i) k stage)) (cut_all b (is_some i) k stage) c i k stage (cut_all b (is_some i) (suc k) stage) s t (statements_meaning b decls sizes i) refl a (all_same b i k stage s t u a) (from_all b (is_some i) (suc k) stage)
-        (λ h. subst (λ w. NoLoop (cut_all b w (suc k) stage)) (sym h) (no_loop_all b (suc k) stage (subst (Unnested b) h u)))
+        (λ h. subst (λ w. Flat true (cut_all b w (suc k) stage)) (sym h) (flat_all b true (suc k) stage (subst (Unnested b) h u)))
         (λ m n h. all_same b i (suc k) stage m n u h)
     stmt_same (PlainStmt.IfElse c b d) i k stage s t u a =
         let k' : ℕ = suc k + tests (cut_all b (is_some i) (suc k) stage) in
         two_same c i k stage (cut_all b (is_some i) (suc k) stage) (cut_all d (is_some i) k' stage) s t (statements_meaning b decls sizes i) (statements_meaning d decls sizes i) a (from_all b (is_some i) (suc k) stage) (From-lower (suc k) k' (cut_all d (is_some i) k' stage) (omega arith) (from_all d (is_some i) k' stage))
-        (λ h. subst (λ w. NoLoop (cut_all b w (suc k) stage)) (sym h) (no_loop_all b (suc k) stage (subst (Unnested b) h u.0)))
-        (λ h. subst (λ w. NoLoop (cut_all d w k' stage)) (sym h) (no_loop_all d k' stage (subst (Unnested d) h u.1)))
+        (λ h. subst (λ w. Flat true (cut_all b w (suc k) stage)) (sym h) (flat_all b true (suc k) stage (subst (Unnested b) h u.0)))
+        (λ h. subst (λ w. Flat true (cut_all d w k' stage)) (sym h) (flat_all d true k' stage (subst (Unnested d) h u.1)))
         (λ m n h. all_same b i (suc k) stage m n u.0 h)
         (λ m n h. all_same d i k' stage m n u.1 h)
     stmt_same (PlainStmt.For n y b) i k stage s t u a = turns_same (size_at y) (λ j m. run_cuts (cut_all b true k stage) decls sizes (Some j) m) (λ j m. statements_meaning b decls sizes (Some j) m) (λ j m n h. all_same b (Some j) k stage m n u.1 h) s t a

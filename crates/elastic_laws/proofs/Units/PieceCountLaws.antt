@@ -67,13 +67,7 @@ mutual
   counted (PlainStmt.IfElse c b d) own k g =
       let k' : ℕ = suc k + tests (cut_all b own (suc k) g) in
       known_branched c own k g (cut_all b own (suc k) g) (cut_all d own k' g) ∙ ap₂ (λ m n. together OnePiece (together m n)) (counted_all b own (suc k) g) (counted_all d own k' g)
-  counted (PlainStmt.For i y b) own k g = refl
-  counted (PlainStmt.Assign to e) own k g = refl
-  counted (PlainStmt.Read to r c) own k g = refl
-  counted (PlainStmt.Write r c v) own k g = refl
-  counted (PlainStmt.Valid n on) own k g = refl
-  counted (PlainStmt.Call n j es) own k g = refl
-  counted (PlainStmt.Apply n) own k g = refl
+  counted other own k g = refl
 
   counted_all : (b : PlainStmts) (own : Bool) (k : ℕ) (g : Option ℕ) → known (cut_all b own k g) ≡ count_all b
   counted_all PlainStmts.nil own k g = refl

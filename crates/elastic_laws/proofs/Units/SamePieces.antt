@@ -41,9 +41,6 @@ lval_lasts (lval.Meta n (Some k)) i = refl
 lval_lasts (lval.Std n) i = refl
 
 expr_lasts : (e : PlainExpr) (i : Option ℕ) → Within lasting i (expr_reads e)
-expr_lasts (PlainExpr.Num w n) i = tt
-expr_lasts (PlainExpr.Truth b) i = tt
-expr_lasts (PlainExpr.Named n) i = tt
 expr_lasts (PlainExpr.At l) i = (lval_lasts l i, tt)
 expr_lasts (PlainExpr.IsValid h) i = (refl, tt)
 expr_lasts (PlainExpr.Unary op a) i = expr_lasts a i
@@ -51,6 +48,7 @@ expr_lasts (PlainExpr.Binary op a b) i = within_both lasting i (expr_reads a) (e
 expr_lasts (PlainExpr.Cast w a) i = expr_lasts a i
 expr_lasts (PlainExpr.Slice a high low) i = expr_lasts a i
 expr_lasts (PlainExpr.Hash k a m) i = expr_lasts a i
+expr_lasts other i = tt
 
 exprs_last : (es : List PlainExpr) (i : Option ℕ) → Within lasting i (exprs_read es)
 exprs_last [] i = tt
@@ -62,13 +60,7 @@ plain_lasts (PlainStmt.Read to r c) i = within_both lasting i (expr_reads c) (re
 plain_lasts (PlainStmt.Write r c v) i =
     within_both lasting i (expr_reads c) (expr_reads v ++ register_location r ∷ []) (expr_lasts c i)
     (within_both lasting i (expr_reads v) (register_location r ∷ []) (expr_lasts v i) (refl, tt))
-plain_lasts (PlainStmt.Valid h on) i = tt
-plain_lasts (PlainStmt.Block g b) i = tt
-plain_lasts (PlainStmt.If c b) i = tt
-plain_lasts (PlainStmt.IfElse c b d) i = tt
-plain_lasts (PlainStmt.For j n b) i = tt
-plain_lasts (PlainStmt.Call n j es) i = tt
-plain_lasts (PlainStmt.Apply n) i = tt
+plain_lasts other i = tt
 
 body_lasts : (xs : PlainStmts) (i : Option ℕ) → Within lasting i (body_reads xs)
 body_lasts PlainStmts.nil i = tt
@@ -109,11 +101,7 @@ leaf_lasts decls (PlainStmt.Apply n) i = table_lasts decls (table_of decls n) i
 leaf_lasts decls (PlainStmt.Assign to e) i = plain_lasts (PlainStmt.Assign to e) i
 leaf_lasts decls (PlainStmt.Read to r c) i = plain_lasts (PlainStmt.Read to r c) i
 leaf_lasts decls (PlainStmt.Write r c v) i = plain_lasts (PlainStmt.Write r c v) i
-leaf_lasts decls (PlainStmt.Valid h on) i = tt
-leaf_lasts decls (PlainStmt.Block g b) i = tt
-leaf_lasts decls (PlainStmt.If c b) i = tt
-leaf_lasts decls (PlainStmt.IfElse c b d) i = tt
-leaf_lasts decls (PlainStmt.For j n b) i = tt
+leaf_lasts decls other i = tt
 
 pub leaf_same : (x : PlainStmt) (decls : List PlainDecl) (sizes : List ℕ) (i : Option ℕ) (s t : Memory) → Same s t → leaf_writes x decls sizes i s ≡ leaf_writes x decls sizes i t
 leaf_same x decls sizes i s t a = leaf_depends lasting x decls sizes i s t (leaf_lasts decls x i) (agree s t a)
@@ -134,14 +122,7 @@ assigned_pred w (lval.Std n) v m own j = refl
 plain_pred : (x : PlainStmt) (w : Setting) (s : Memory) (m : ℕ) (own : Bool) (j : Option ℕ) → plain_writes w s x (pred_at m own j) ≡ None
 plain_pred (PlainStmt.Assign to e) w s m own j = assigned_pred w to _ m own j
 plain_pred (PlainStmt.Read to r c) w s m own j = assigned_pred w to _ m own j
-plain_pred (PlainStmt.Write r c v) w s m own j = refl
-plain_pred (PlainStmt.Valid h on) w s m own j = refl
-plain_pred (PlainStmt.Block g b) w s m own j = refl
-plain_pred (PlainStmt.If c b) w s m own j = refl
-plain_pred (PlainStmt.IfElse c b d) w s m own j = refl
-plain_pred (PlainStmt.For i n b) w s m own j = refl
-plain_pred (PlainStmt.Call n i es) w s m own j = refl
-plain_pred (PlainStmt.Apply n) w s m own j = refl
+plain_pred other w s m own j = refl
 
 body_pred : (xs : PlainStmts) (w : Setting) (s : Memory) (m : ℕ) (own : Bool) (j : Option ℕ) → body_writes w s xs (pred_at m own j) ≡ None
 body_pred PlainStmts.nil w s m own j = refl
@@ -165,9 +146,4 @@ leaf_pred (PlainStmt.Call n k es) decls sizes i s m own j = run_pred (Some (n, e
 leaf_pred (PlainStmt.Apply n) decls sizes i s m own j = table_pred (table_of decls n) (outside decls sizes i) s m own j
 leaf_pred (PlainStmt.Assign to e) decls sizes i s m own j = plain_pred (PlainStmt.Assign to e) (outside decls sizes i) s m own j
 leaf_pred (PlainStmt.Read to r c) decls sizes i s m own j = plain_pred (PlainStmt.Read to r c) (outside decls sizes i) s m own j
-leaf_pred (PlainStmt.Write r c v) decls sizes i s m own j = refl
-leaf_pred (PlainStmt.Valid h on) decls sizes i s m own j = refl
-leaf_pred (PlainStmt.Block g b) decls sizes i s m own j = refl
-leaf_pred (PlainStmt.If c b) decls sizes i s m own j = refl
-leaf_pred (PlainStmt.IfElse c b d) decls sizes i s m own j = refl
-leaf_pred (PlainStmt.For k n b) decls sizes i s m own j = refl
+leaf_pred other decls sizes i s m own j = refl

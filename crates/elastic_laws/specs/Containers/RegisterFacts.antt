@@ -1,6 +1,6 @@
 -- What holds of registers where they are put, written and looked up; this project's own.
 use Rattle.std.specs.Prelude.{◌≡◌, ◌≢◌, ◌⊎◌, ℕ, List, [], ◌∷◌, ◌++◌, length, slice_get, slice_set, Option, Some, None, option_map}
-use Rattle.elx_bits.specs.Words.{Word}
+use Rattle.elx_bits.specs.Words.{BitWord}
 use Rattle.elastic_ast.specs.Tree.{Name}
 use Rattle.elastic_ast.specs.Containers.RegisterLists.{Register, register_at, cell_at, with_cell, width_at, values_at}
 
@@ -13,7 +13,7 @@ pub record CellsAreApart : Type 0 where
   pub read_back :
       (registers : List Register) (place cell value : ℕ) →
       cell_at (with_cell registers place cell value) place cell
-      ≡ option_map (λ old. (let x : Word = (old.0, value) in x)) (cell_at registers place cell)
+      ≡ option_map (λ old. (let x : BitWord = (old.0, value) in x)) (cell_at registers place cell)
   pub others_stay :
       (registers : List Register) (place cell value other_place other_cell : ℕ) → AreTwoCells place cell other_place other_cell →
       cell_at (with_cell registers place cell value) other_place other_cell ≡ cell_at registers other_place other_cell
@@ -39,7 +39,7 @@ pub record NamesLeadToCells : Type 0 where
   pub cells :
       (registers : List Register) (name : Name) (index : Option ℕ) (place cell : ℕ) → register_at registers name index ≡ Some place →
       cell_at registers place cell
-      ≡ option_map (λ value. (let x : Word = (width_at registers name index, value) in x)) (slice_get (values_at registers name index) cell)
+      ≡ option_map (λ value. (let x : BitWord = (width_at registers name index, value) in x)) (slice_get (values_at registers name index) cell)
   pub width :
       (registers : List Register) (name : Name) (index : Option ℕ) (place cell value : ℕ) →
       width_at (with_cell registers place cell value) name index ≡ width_at registers name index

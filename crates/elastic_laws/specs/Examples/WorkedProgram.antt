@@ -1,6 +1,6 @@
 -- A small program, and what statements do in it, for the equations that show what statements mean; this project's own.
 use Rattle.std.specs.Prelude.{ℕ, true, List, [], ◌∷◌, Option, Some, None, codes}
-use Rattle.elx_bits.specs.Words.{Word}
+use Rattle.elx_bits.specs.Words.{BitWord}
 use Rattle.elastic_ast.specs.declared.declarations.Field.{Field}
 use Rattle.elastic_ast.specs.declared.statements.Amount.TheVariants as amount
 use Rattle.elastic_ast.specs.declared.statements.Lval.{Lval}
@@ -109,10 +109,10 @@ memory_after size body =
     statements_meaning (stmts body) (with_body []) (size ∷ []) None (held (zero_words (with_body []) (size ∷ [])) two_cells)
 
 -- `meta.x` after statements, in its width
-abbrev pub x_after : ℕ → List PlainStmt → Word
+abbrev pub x_after : ℕ → List PlainStmt → BitWord
 x_after size body = memory_after size body (At (place_of_lval x None))
 
-abbrev pub element_after : ℕ → List PlainStmt → ℕ → Word
+abbrev pub element_after : ℕ → List PlainStmt → ℕ → BitWord
 element_after size body index = memory_after size body (At (place_of_lval element (Some index)))
 
 abbrev pub cells_after : ℕ → List PlainStmt → List ℕ

@@ -12,7 +12,7 @@ use Rattle.elastic_ast.specs.OperatorSorts.{Plus, Join, Turn, binary, unary}
 use Rattle.elastic_ast.specs.Units.PlainUnits.{PlainWork, PlainUnit}
 use Rattle.elastic_ast.specs.Units.UnitsOf.{units_of}
 use Rattle.elastic_ast.specs.Units.Order.{Relation, order}
-use Rattle.elx_bits.specs.Words.{Word}
+use Rattle.elx_bits.specs.Words.{BitWord}
 use Rattle.elastic_ast.specs.Containers.LocationPlaces.{place}
 use Rattle.elastic_ast.specs.Meaning.Memory.{Memory, At, held}
 use Rattle.elastic_ast.specs.Units.Instances.{nth_size, instances}
@@ -236,16 +236,16 @@ abbrev pub filled : ℕ → Memory
 filled number = held (λ place. (8, number)) (λ name index. [])
 
 -- what the instance of a unit writes to a location at an index, where everything holds a number and the size of `s` is 3
-abbrev pub written_by : List PlainUnit → List PlainDecl → ℕ → ℕ → ℕ → List ℕ → Option Word
+abbrev pub written_by : List PlainUnit → List PlainDecl → ℕ → ℕ → ℕ → List ℕ → Option BitWord
 written_by [] decls number unit index place = None
 written_by (first ∷ rest) decls number zero index place = unit_writes first decls (3 ∷ []) index (filled number) (At place)
 written_by (first ∷ rest) decls number (suc unit) index place = written_by rest decls number unit index place
 
-abbrev pub writes_to : List PlainDecl → ℕ → ℕ → ℕ → Location → Option ℕ → Option Word
+abbrev pub writes_to : List PlainDecl → ℕ → ℕ → ℕ → Location → Option ℕ → Option BitWord
 writes_to decls number unit index at its = written_by (units_of decls) decls number unit index (place at its)
 
 -- what a location holds after all instances, where everything held a number
-abbrev pub after_all : List PlainDecl → ℕ → Location → Option ℕ → Word
+abbrev pub after_all : List PlainDecl → ℕ → Location → Option ℕ → BitWord
 after_all decls number at its =
     after_instances (instances (units_of decls) (nth_size (3 ∷ []))) decls (3 ∷ []) (filled number) (At (place at its))
 

@@ -3,7 +3,7 @@
 use Rattle.std.specs.Prelude.{◌≡◌, ℕ, ◌<◌, ◌^◌, Bool, true, not, ◌&&◌, List, [], ◌∷◌, map, Some, IfSome}
 use Rattle.elastic_ast.specs.Typing.LanguageLimits.{port_width}
 use Rattle.std.specs.List.{list_all}
-use Rattle.elx_bits.specs.Words.{Word}
+use Rattle.elx_bits.specs.Words.{BitWord}
 use Rattle.elastic_ast.specs.declared.flat.Packet.{Packet}
 use Rattle.elastic_ast.specs.Packets.Taken.{taken}
 use Rattle.elastic_ast.specs.Tree.{Name, PlainDecl, PlainState}
@@ -14,7 +14,7 @@ use Rattle.elastic_ast.specs.Meaning.Memory.{Words}
 use Rattle.elastic_ast.specs.Packets.MainParts.{states_of}
 
 -- a word has the width of its place, and its number fits it
-pub record IsTidy (places : List PlaceWidth) (at : List ℕ) (word : Word) : Type 0 where
+pub record IsTidy (places : List PlaceWidth) (at : List ℕ) (word : BitWord) : Type 0 where
   pub width : word.0 ≡ width_at_place places at
   pub fits : word.1 < 2 ^ word.0
 

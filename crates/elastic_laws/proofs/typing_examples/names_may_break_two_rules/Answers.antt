@@ -1,8 +1,6 @@
 use Rattle.std.proofs.Common.{refl, false, true, inl, arith}
-use Rattle.elastic_ast.specs.Typing.Typed.{broken_rule}
-use Rattle.elastic_ast.specs.Typing.Demand.{Known, Constant, fixed_names}
-use Rattle.elastic_ast.specs.Typing.LookUps.{std_fields}
-use Rattle.elastic_laws.proofs.Typing.UnmetLaws.{is_typed}
+use Rattle.elastic_ast.specs.Typing.Demand.{Known, Constant}
+use Rattle.elastic_laws.proofs.Typing.UnmetLaws.{is_typed, broken_rule, fixed_names, std_fields}
 use Rattle.elastic_laws.proofs.typing_examples.names_may_break_two_rules.Goals as goal
 
 pub returns : goal.returns

@@ -1,9 +1,6 @@
 use Rattle.std.proofs.Common.{refl, false, inl, inr}
-use Rattle.elastic_ast.specs.Typing.Typed.{broken_rule}
-use Rattle.elastic_ast.specs.Typing.Demand.{fixed_names}
-use Rattle.elastic_ast.specs.Typing.LookUps.{std_fields}
 use Rattle.elastic_ast.specs.Typing.ParserLoops.{direct, further}
-use Rattle.elastic_laws.proofs.Typing.UnmetLaws.{whole_only, is_typed}
+use Rattle.elastic_laws.proofs.Typing.UnmetLaws.{whole_only, is_typed, broken_rule, fixed_names, std_fields}
 use Rattle.elastic_ast.specs.declared.rule.Rule.TheVariants.{NoMain, ParserLoop}
 use Rattle.elastic_laws.proofs.typing_examples.parts_belong_together.Goals as goal
 

@@ -1,10 +1,7 @@
 use Rattle.std.proofs.Common.{refl, false, true, inl, inr, arith, [], ◌∷◌}
 use Rattle.std.specs.Prelude.{◌≡◌, ℕ, Some, slice_get, codes}
 use Rattle.elastic_ast.specs.Typing.NamedRegisters.{Naming}
-use Rattle.elastic_ast.specs.Typing.Typed.{broken_rule}
-use Rattle.elastic_ast.specs.Typing.Demand.{fixed_names}
-use Rattle.elastic_ast.specs.Typing.LookUps.{std_fields}
-use Rattle.elastic_laws.proofs.Typing.UnmetLaws.{whole_only, is_typed}
+use Rattle.elastic_laws.proofs.Typing.UnmetLaws.{whole_only, is_typed, broken_rule, fixed_names, std_fields}
 use Rattle.elastic_ast.specs.declared.rule.Rule.TheVariants.{RegisterTwice, RegisterUnused}
 use Rattle.elastic_laws.proofs.typing_examples.registers_are_named_by_one_unit.Goals as goal
 

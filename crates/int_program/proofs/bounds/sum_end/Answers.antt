@@ -1,16 +1,9 @@
-use Rattle.std.proofs.Common.{arith, rules, FitsSigned}
-use Rattle.std.specs.Int.{w128}
+use Rattle.std.proofs.Common.{arith, rules}
 use Rattle.int_program.proofs.SumLaws.{no_part, end_more, weight_more, plus_fits, sum_turn}
 use Rattle.int_program.proofs.bounds.sum_end.Goals as goal
 
 pub overflow_add-sum : goal.overflow_add-sum
-overflow_add-sum c =
-    let f : FitsSigned w128 c.part_end-sum.result = search rules in
-    let more = weight_more c.args.parts.now c.loop-part.part-index no_part c.args.within.now.high c.loop-part-test.true in
-    plus_fits _ _ _ _ f (omega (arith, c.loop-part.invariant.1)) c.part_end-sum.ensures.bound c.requires.small
+overflow_add-sum c = plus_fits _ c.part_end-sum.result _ _ (search rules) (omega (arith, c.loop-part.invariant.1, weight_more c.args.parts.now c.loop-part.part-index no_part c.args.within.now.high c.loop-part-test.true)) c.part_end-sum.ensures.bound c.requires.small
 
 pub loop-part-preserved : goal.loop-part-preserved
-loop-part-preserved c =
-    let f : FitsSigned w128 c.part_end-sum.result = search rules in
-    let more = weight_more c.args.parts.now c.loop-part.part-index no_part c.args.within.now.high c.loop-part-test.true in
-    sum_turn _ _ _ _ _ _ _ _ _ f c.loop-part.invariant.0 (end_more c.args.end c.args.parts.now c.loop-part.part-index no_part c.args.within.now c.loop-part-test.true) c.part_end-sum.ensures.value (rw more at c.loop-part.invariant.1) c.part_end-sum.ensures.bound c.requires.small
+loop-part-preserved c = sum_turn _ c.part_end-sum.result _ _ _ _ _ _ _ (search rules) c.loop-part.invariant.0 (end_more c.args.end c.args.parts.now c.loop-part.part-index no_part c.args.within.now c.loop-part-test.true) c.part_end-sum.ensures.value (rw (weight_more c.args.parts.now c.loop-part.part-index no_part c.args.within.now.high c.loop-part-test.true) at c.loop-part.invariant.1) c.part_end-sum.ensures.bound c.requires.small

@@ -5,4 +5,4 @@ use Rattle.spelling.proofs.ByParts.{up_to}
 use Rattle.p4_declarations.proofs.fields.meta_fields.Goals as goal
 
 pub returns : goal.returns
-returns c = up_to record { none = λ more one later a b m at. meta_field_no_sign more one (codes "}") m at } (meta_field_stays c.args.depth) (λ old new r call. search rules) c.until.ensures
+returns c = up_to record { none = λ more one later a b m at. meta_field_no_sign more one (codes "}") m at } (meta_field_stays c.args.depth) (λ old new r call. search rules) c.until_closed.ensures

@@ -33,8 +33,8 @@ returns-then-is_at_reserved-5 c = made_flat First.by_control (at_reserved (ahead
 pub returns-then-is_at_name-4 : goal.returns-then-is_at_name-4
 returns-then-is_at_name-4 c = made_flat First.by_main (at_name (ahead c.args.reader.now) (c.if-is_at_name-4.ensures.0 refl)) c.package.ensures
 
-pub returns : goal.returns
-returns c =
+pub returns-else-is_at_name-4 : goal.returns-else-is_at_name-4
+returns-else-is_at_name-4 c =
     let r = c.include.ensures c.args.depth in
     record {
       taken = r.taken;

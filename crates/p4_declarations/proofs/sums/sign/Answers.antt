@@ -13,6 +13,6 @@ pub returns-then-eat_sign-2-clause-only : goal.returns-then-eat_sign-2-clause-on
 returns-then-eat_sign-2-clause-only c = λ minus rest m.
     same_sign false minus (subst (λ r. MayTake (SpellsSign minus) (ahead r) rest) (sym (c.if-eat_sign.ensures.left refl)) m) (c.if-eat_sign-2.ensures.taken refl)
 
-pub returns-clause-only : goal.returns-clause-only
-returns-clause-only c = λ minus rest m.
+pub returns-else-eat_sign-2-clause-only : goal.returns-else-eat_sign-2-clause-only
+returns-else-eat_sign-2-clause-only c = λ minus rest m.
     absurd (no_sign_there minus m (not_there c.if-eat_sign.ensures.at.1) (λ at. not_there c.if-eat_sign-2.ensures.at.1 (subst (λ r. Begins (IsSign (codes "+")) (ahead r)) (sym (c.if-eat_sign.ensures.left refl)) at)))

@@ -8,4 +8,4 @@ use Rattle.p4_declarations.proofs.symbols.maximize_body.Goals as goal
 
 pub returns : goal.returns
 returns c =
-    around refl (λ inner old new r call. within_before_up_to {Follows = Ends sum_signs} (λ ws at. ends_sign sum_signs (codes ")") ws refl at) (search rules)) c.in_brackets.ensures
+    around refl (λ inner old new r call. within_before_up_to {Follows = Ends sum_signs} (λ ws at. ends_sign sum_signs (codes ")") ws refl at) (search rules)) c.around.ensures

@@ -5,7 +5,7 @@ use Rattle.spelling.specs.Words.{Word}
 use Rattle.spelling.specs.Reading.{ahead, Takes, MayTake}
 use Rattle.p4_expr.specs.Operators.{operators_in}
 use Rattle.p4_expr.specs.Expressions.{SpellsLevel, SpellsPrimary}
-use Rattle.p4_expr.specs.Standing.{EndsLevel, GoesNoFurther}
+use Rattle.p4_expr.specs.Standing.{GoesNoFurther}
 use Rattle.p4_expr.proofs.StepsLeft.{StepsLeft}
 use Rattle.p4_expr.proofs.SlicesLeft.{SlicesLeft}
 use Rattle.p4_expr.proofs.reading.+expressions.Given as goal
@@ -33,7 +33,7 @@ invariant-level-operators l = record {
   taken : Takes (SpellsLevel l.depth l.level (seen_expr l.e)) (ahead l.fn.reader) (ahead l.reader);
   count : l.fn.left ≡ operators_in (seen_expr l.e) + l.left;
   below : GoesNoFurther (l.level - 1) (ahead l.reader);
-  only : (more : ℕ) (e : PlainExpr) (rest : List Word) → MayTake (SpellsLevel more l.level e) (ahead l.fn.reader) rest → EndsLevel l.level rest → StepsLeft more l.level (l.level - 1) (seen_expr l.e) e (ahead l.reader) rest;
+  still : (more : ℕ) (e : PlainExpr) (rest : List Word) → MayTake (SpellsLevel more l.level e) (ahead l.fn.reader) rest → StepsLeft more l.level (l.level - 1) (seen_expr l.e) e (ahead l.reader) rest;
 }
 
 abbrev pub decreases-level-operators : goal.decreases-level-operators
@@ -43,7 +43,7 @@ abbrev pub invariant-primary-slices : goal.invariant-primary-slices
 invariant-primary-slices l = record {
   taken : Takes (SpellsPrimary l.depth (seen_expr l.e)) (ahead l.fn.reader) (ahead l.reader);
   count : l.fn.left ≡ operators_in (seen_expr l.e) + l.left;
-  only : (more : ℕ) (e : PlainExpr) (rest : List Word) → MayTake (SpellsPrimary more e) (ahead l.fn.reader) rest → EndsLevel 0 rest → SlicesLeft more (seen_expr l.e) e (ahead l.reader) rest;
+  still : (more : ℕ) (e : PlainExpr) (rest : List Word) → MayTake (SpellsPrimary more e) (ahead l.fn.reader) rest → SlicesLeft more (seen_expr l.e) e (ahead l.reader) rest;
 }
 
 abbrev pub decreases-primary-slices : goal.decreases-primary-slices

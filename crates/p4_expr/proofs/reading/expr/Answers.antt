@@ -1,4 +1,4 @@
-use Rattle.std.proofs.Common.{◌≡◌, ◌-◌, ◌^◌, ap, arith, drop, length, min, subst, sym, ◌∙◌}
+use Rattle.std.proofs.Common.{rules, ℕ, ◌≡◌, ◌-◌, ◌^◌, ◌≤◌, ap, arith, drop, length, min, subst, sym, ◌∙◌}
 use Rattle.elastic_ast.specs.Seen.{seen_expr}
 use Rattle.spelling.specs.Words.{words}
 use Rattle.spelling.specs.Reading.{MayTake, Takes, ahead}
@@ -12,18 +12,23 @@ use Rattle.p4_expr.specs.Standing.{GoesNoFurther}
 use Rattle.p4_expr.proofs.PassingLaws.{passed_front}
 use Rattle.p4_expr.proofs.reading.expr.Goals as goal
 
-pub returns-in-Ok-clause-taken : goal.returns-in-Ok-clause-taken
-returns-in-Ok-clause-taken c =
-    let t = subst (λ a. Takes (SpellsExpr c.args.most_depth (seen_expr c.in-Ok.e)) a (ahead c.read_expr.new.reader)) c.from-reader.ensures c.in-Ok.ensures.taken in
-    let end = ap (λ n. words c.args.text.now (drop (length c.args.tokens.now - n) c.args.tokens.now)) c.left.ensures ∙ place_behind c.args.text.now c.args.tokens.now c.args.at t.front (ahead c.read_expr.new.reader) t.joined in
-    subst (Takes (SpellsExpr c.args.most_depth (seen_expr c.in-Ok.e)) (words c.args.text.now (drop c.args.at c.args.tokens.now))) (sym end) t
-
-pub returns-in-Ok-clause-only : goal.returns-in-Ok-clause-only
-returns-in-Ok-clause-only c = λ more e rest m ends.
-    let t = subst (λ a. Takes (SpellsExpr c.args.most_depth (seen_expr c.in-Ok.e)) a (ahead c.read_expr.new.reader)) c.from-reader.ensures c.in-Ok.ensures.taken in
-    let end = ap (λ n. words c.args.text.now (drop (length c.args.tokens.now - n) c.args.tokens.now)) c.left.ensures ∙ place_behind c.args.text.now c.args.tokens.now c.args.at t.front (ahead c.read_expr.new.reader) t.joined in
-    let r = c.in-Ok.ensures.only more e rest (subst (λ a. MayTake (SpellsExpr more e) a rest) (sym c.from-reader.ensures) m) ends in
-    (r.0, end ∙ r.1)
+pub returns-in-Ok : goal.returns-in-Ok
+returns-in-Ok c =
+    let read = c.in-Ok.ensures in
+    let tokens = c.args.tokens.now in
+    let words_from = λ (n : ℕ). words c.args.text.now (drop n tokens) in
+    let t = subst (λ a. Takes (SpellsExpr c.args.most_depth (seen_expr c.in-Ok.e)) a (ahead c.read_expr.new.reader)) c.from-reader.ensures read.taken in
+    let end = sym (ap (λ n. words_from (length tokens - n)) c.left.ensures ∙ place_behind c.args.text.now tokens c.args.at t.front (ahead c.read_expr.new.reader) t.joined) in
+    record {
+      taken = subst (Takes (SpellsExpr c.args.most_depth (seen_expr c.in-Ok.e)) (words_from c.args.at)) end t;
+      few = read.few;
+      within = search rules;
+      only = λ more e rest m ends. let r = read.only more e rest (subst (λ a. MayTake (SpellsExpr more e) a rest) (sym c.from-reader.ensures) m) ends in (r.0, sym end ∙ r.1);
+      longest = λ more e rest m. subst (λ ws. length ws ≤ length rest) end (read.longest more e rest (subst (λ a. MayTake (SpellsExpr more e) a rest) (sym c.from-reader.ensures) m));
+      whole = subst (GoesNoFurther weakest) end read.whole;
+      deep = tt;
+      named = tt;
+    }
 
 pub returns-in-Err-clause-only : goal.returns-in-Err-clause-only
 returns-in-Err-clause-only c = λ more e rest m ends.
@@ -40,9 +45,3 @@ returns-in-Err-clause-deep c =
     let t = subst (λ a. passed a after) c.from-reader.ensures s in
     let f = passed_front t in
     passed_at passed c.args.text.now c.args.tokens.now c.args.at f.0 after f.1 t) c.within.ensures.same at c.in-Err.ensures.deep
-
-pub returns-in-Ok-clause-whole : goal.returns-in-Ok-clause-whole
-returns-in-Ok-clause-whole c =
-    let t = subst (λ a. Takes (SpellsExpr c.args.most_depth (seen_expr c.in-Ok.e)) a (ahead c.read_expr.new.reader)) c.from-reader.ensures c.in-Ok.ensures.taken in
-    let end = ap (λ n. words c.args.text.now (drop (length c.args.tokens.now - n) c.args.tokens.now)) c.left.ensures ∙ place_behind c.args.text.now c.args.tokens.now c.args.at t.front (ahead c.read_expr.new.reader) t.joined in
-    subst (GoesNoFurther weakest) (sym end) c.in-Ok.ensures.whole

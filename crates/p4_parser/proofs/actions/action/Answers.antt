@@ -6,7 +6,7 @@ use Rattle.std.proofs.Common.{arith, codes, inl}
 use Rattle.p4_parser.proofs.ActionSpelling.{opens_params, same_action}
 use Rattle.spelling.proofs.Only.{after, after_one, named_same, wants}
 use Rattle.spelling.proofs.Bounds.{even, if_deep, opens_then, stop_opens}
-use Rattle.p4_statements.proofs.FewReading.{refused_few}
+use Rattle.spelling.proofs.Refusals.{refused_few}
 use Rattle.spelling.proofs.Limits.{or_as}
 use Rattle.p4_parser.proofs.actions.action.Goals as goal
 

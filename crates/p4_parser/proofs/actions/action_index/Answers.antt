@@ -4,7 +4,7 @@ use Rattle.p4_parser.specs.Declarations.{SpellsIndexName}
 use Rattle.spelling.proofs.Taking.{may, may_empty}
 use Rattle.std.proofs.Common.{Some, ap, refl, rules, sym, ◌∙◌}
 use Rattle.spelling.proofs.ByParts.{around_words}
-use Rattle.p4_tables.proofs.WordsUpTo.{refused_up_to}
+use Rattle.spelling.proofs.Refusals.{refused_up_to}
 use Rattle.spelling.proofs.Only.{not_there}
 use Rattle.p4_parser.proofs.actions.action_index.Goals as goal
 

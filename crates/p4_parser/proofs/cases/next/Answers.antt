@@ -4,7 +4,7 @@ use Rattle.elastic_ast.specs.Tree.{PlainNext}
 use Rattle.spelling.proofs.Limits.{want_or}
 use Rattle.std.proofs.Common.{ap, refl, sym, ◌∙◌}
 use Rattle.p4_expr.specs.Expressions.{HasFewOperators}
-use Rattle.p4_statements.proofs.FewReading.{refused_few}
+use Rattle.spelling.proofs.Refusals.{refused_few}
 use Rattle.p4_parser.proofs.StateSpelling.{select_read, to_there}
 use Rattle.std.proofs.lemmas.List.Elements.{All-nil}
 use Rattle.spelling.proofs.Bounds.{refused_deep}

@@ -9,7 +9,7 @@ use Rattle.spelling.proofs.Balance.{stays_both, stays_reserved, stays_round}
 use Rattle.p4_expr.specs.Expressions.{HasFewOperators, SpellsExpr}
 use Rattle.spelling.proofs.Bounds.{even, if_deep, line_opens, stop_opens}
 use Rattle.std.proofs.lemmas.List.Elements.{All-cons, All-head, All-nil}
-use Rattle.p4_statements.proofs.FewReading.{refused_few_made}
+use Rattle.spelling.proofs.Refusals.{refused_few_made}
 use Rattle.spelling.proofs.Limits.{or_as}
 use Rattle.elastic_ast.specs.Seen.{seen_expr}
 use Rattle.p4_parser.proofs.cases.select.Goals as goal

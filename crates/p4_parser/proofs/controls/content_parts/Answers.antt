@@ -8,8 +8,8 @@ use Rattle.spelling.proofs.Only.{after, begins_first, wants}
 use Rattle.p4_expr.specs.Expressions.{HasFewOperators}
 use Rattle.spelling.proofs.Bounds.{even, if_deep}
 use Rattle.p4_parser.specs.ExpressionsIn.{expressions_of_local}
-use Rattle.p4_statements.proofs.FewReading.{refused_few}
-use Rattle.p4_statements.proofs.Lists.{all_back, all_front}
+use Rattle.spelling.proofs.Refusals.{refused_few}
+use Rattle.spelling.proofs.AllOf.{all_back, all_front}
 use Rattle.p4_parser.proofs.ControlSpelling.{same_contents}
 use Rattle.spelling.proofs.Limits.{or_as}
 use Rattle.spelling.proofs.Taking.{may_takes}

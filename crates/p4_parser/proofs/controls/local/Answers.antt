@@ -2,7 +2,7 @@ use Rattle.std.proofs.Common.{ap, inl, refl, subst, sym, ◌∙◌}
 use Rattle.p4_expr.specs.Expressions.{HasFewOperators}
 use Rattle.p4_parser.specs.Reading.{LocalHasFew}
 use Rattle.p4_parser.proofs.ControlSpelling.{action_there, table_there}
-use Rattle.p4_statements.proofs.FewReading.{refused_few}
+use Rattle.spelling.proofs.Refusals.{refused_few}
 use Rattle.elastic_ast.specs.Tree.{PlainLocal}
 use Rattle.spelling.proofs.Limits.{or_as}
 use Rattle.spelling.proofs.Only.{not_there}

@@ -1,5 +1,6 @@
+use Rattle.spelling.proofs.Refusals.{refused_few_up_to}
 use Rattle.p4_parser.proofs.ControlSpelling.{apply_no_local, local_first}
-use Rattle.p4_statements.proofs.FewReading.{each_of, refused_few_up_to}
+use Rattle.spelling.proofs.AllOf.{each_of}
 use Rattle.std.specs.Prelude.{flat_map}
 use Rattle.std.proofs.Common.{◌≡◌, [], ◌∷◌, ◌++◌, ap, codes, map, refl, subst, ◌∙◌, ◌⊎◌, arith, All}
 use Rattle.std.proofs.lemmas.List.{map-append}

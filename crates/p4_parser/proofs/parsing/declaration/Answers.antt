@@ -34,7 +34,7 @@ returns-then-is_at_control c =
       only = λ more decl rest m.
           by_form more (λ d. IsReading ((more ≤ c.args.depth) × DeclHasFew d) seen_decl d rest (ahead c.control.new.reader) c.control.result) decl m
           (λ name states f first. absurd (not_there c.if-is_at_reserved.ensures.1 first))
-          (λ name locals body f first inout. c.control.ensures.only more (name, locals, body) rest f)
+          (λ name locals body f first inout. c.control.ensures.only more (name, (locals, body)) rest f)
           (λ decl f words. absurd (words.no_control at.0 at.1));
       deep = c.control.ensures.deep;
     }

@@ -7,7 +7,7 @@ use Rattle.spelling.proofs.Limits.{or_as, want_or}
 use Rattle.spelling.proofs.Only.{after, after_one, begins_first, wants, wants_one}
 use Rattle.p4_parser.proofs.DeclarationsWithin.{extract_stays}
 use Rattle.spelling.proofs.Bounds.{even, if_deep, refused_deep}
-use Rattle.p4_statements.proofs.FewReading.{refused_few}
+use Rattle.spelling.proofs.Refusals.{refused_few}
 use Rattle.p4_parser.specs.Declarations.{SpellsExtract}
 use Rattle.p4_parser.proofs.states.body_parts.Goals as goal
 

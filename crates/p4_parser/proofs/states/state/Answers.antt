@@ -4,7 +4,7 @@ use Rattle.p4_expr.proofs.Bound.{bound_opens}
 use Rattle.std.proofs.Common.{arith, codes}
 use Rattle.p4_parser.proofs.StateSpelling.{same_state}
 use Rattle.spelling.proofs.Only.{after_one, named_same}
-use Rattle.p4_statements.proofs.FewReading.{refused_few}
+use Rattle.spelling.proofs.Refusals.{refused_few}
 use Rattle.spelling.proofs.Bounds.{if_deep}
 use Rattle.p4_parser.proofs.states.state.Goals as goal
 

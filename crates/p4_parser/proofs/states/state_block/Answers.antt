@@ -6,4 +6,4 @@ use Rattle.spelling.proofs.ByParts.{around_few}
 use Rattle.p4_parser.proofs.states.state_block.Goals as goal
 
 pub returns : goal.returns
-returns c = around_few {Of = SpellsStates} {seen = seen_states} {Few = FewInStates} refl (passes_opens (codes "{") c.args.depth 1 2 refl (omega arith)) (λ inner old new r call. search rules) c.in_brackets.ensures
+returns c = around_few {Of = SpellsStates} {seen = seen_states} {Few = FewInStates} refl (passes_opens (codes "{") c.args.depth 1 2 refl (omega arith)) (λ inner old new r call. search rules) c.around.ensures

@@ -9,4 +9,4 @@ use Rattle.p4_statements.proofs.brackets.bracketed.Goals as goal
 pub returns : goal.returns
 returns c =
     around_few {Of = SpellsExpr} {seen = seen_expr} {Few = HasFewOperators} refl (passes_line (codes "(") c.args.depth refl (in_sign (codes "(") refl refl refl))
-    (λ inner old new r call. expr_up_to (search rules)) c.in_brackets.ensures
+    (λ inner old new r call. expr_up_to (search rules)) c.around.ensures

@@ -9,4 +9,4 @@ use Rattle.p4_statements.proofs.brackets.two.Goals as goal
 pub returns : goal.returns
 returns c =
     around_few {Of = SpellsTwo} {seen = seen_two} {Few = λ both. HasFewOperators both.0 × HasFewOperators both.1} refl (passes_line (codes "(") c.args.depth refl (in_sign (codes "(") refl refl refl))
-    (λ inner old new r call. search rules) c.in_brackets.ensures
+    (λ inner old new r call. search rules) c.around.ensures

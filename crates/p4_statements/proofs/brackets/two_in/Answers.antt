@@ -9,7 +9,7 @@ use Rattle.p4_expr.proofs.InLines.{expr_in_line}
 use Rattle.p4_statements.proofs.Lines.{past}
 use Rattle.spelling.proofs.Taking.{may, takes_both}
 use Rattle.p4_expr.proofs.ExprWithin.{expr_within}
-use Rattle.p4_statements.proofs.FewReading.{refused_few_up_to}
+use Rattle.spelling.proofs.Refusals.{refused_few_up_to}
 use Rattle.p4_expr.specs.GoesOn.{expression_signs}
 use Rattle.p4_statements.proofs.brackets.two_in.Goals as goal
 

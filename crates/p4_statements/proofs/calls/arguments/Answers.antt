@@ -10,4 +10,4 @@ use Rattle.p4_statements.proofs.calls.arguments.Goals as goal
 pub returns : goal.returns
 returns c =
     around_few {Of = SpellsArguments} {seen = seen_exprs} {Few = λ es. All HasFewOperators es} refl (passes_line (codes "(") c.args.depth refl (in_sign (codes "(") refl refl refl))
-    (λ inner old new r call. search rules) c.in_brackets.ensures
+    (λ inner old new r call. search rules) c.around.ensures

@@ -6,7 +6,7 @@ use Rattle.spelling.proofs.Taking.{may, may_takes, takes_both, takes_may}
 use Rattle.spelling.specs.Reading.{Takes, ahead}
 use Rattle.p4_statements.proofs.Lines.{past, stop_after}
 use Rattle.spelling.proofs.Balance.{stays_both, stays_named}
-use Rattle.p4_statements.proofs.FewReading.{refused_few_made}
+use Rattle.spelling.proofs.Refusals.{refused_few_made}
 use Rattle.spelling.proofs.Limits.{or_as, want_or}
 use Rattle.p4_statements.specs.Reading.{HasFew, SpellsSimple}
 use Rattle.elastic_ast.specs.Seen.{seen_exprs}

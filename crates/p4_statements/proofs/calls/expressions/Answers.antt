@@ -1,4 +1,4 @@
-use Rattle.p4_statements.proofs.FewReading.{refused_few_before}
+use Rattle.spelling.proofs.Refusals.{refused_few_before}
 use Rattle.std.proofs.Common.{◌≡◌, [], ◌∷◌, ◌++◌, ap, codes, map, refl, subst, ◌∙◌}
 use Rattle.std.proofs.lemmas.List.{map-append}
 use Rattle.std.proofs.lemmas.List.Elements.{All-cons, All-nil, All-push}

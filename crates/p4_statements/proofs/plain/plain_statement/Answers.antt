@@ -1,8 +1,9 @@
 use Rattle.std.proofs.lemmas.Result.{IfOk-weaker}
 use Rattle.std.proofs.lemmas.Bool.{false≢true}
 use Rattle.elastic_ast.specs.Tree.{PlainStmt}
-use Rattle.p4_statements.proofs.FewReading.{refused_few}
-use Rattle.std.proofs.Common.{codes, refl, sym, subst, [], ◌≤◌, inl}
+use Rattle.p4_statements.proofs.FewReading.{any_form}
+use Rattle.spelling.proofs.Refusals.{refused_few}
+use Rattle.std.proofs.Common.{◌≡◌, codes, refl, sym, subst, [], ◌≤◌, inl}
 use Rattle.std.proofs.lemmas.List.Elements.{All-cons, All-head, All-nil}
 use Rattle.elastic_ast.specs.Tree.{PlainStmt}
 use Rattle.spelling.specs.Reading.{Takes, IsReading, ahead, WantsOr}
@@ -12,7 +13,7 @@ use Rattle.spelling.proofs.Limits.{or_as, want_or, reading_as}
 use Rattle.p4_expr.specs.Expressions.{HasFewOperators}
 use Rattle.p4_expr.proofs.PartSpelling.{ends_index}
 use Rattle.p4_statements.specs.Statements.{SpellsPlain}
-use Rattle.p4_statements.specs.Reading.{Assigns, HasFew, ReadsInto}
+use Rattle.p4_statements.specs.Reading.{Assigns, HasFew, ReadsInto, a_change, a_write}
 use Rattle.elastic_ast.specs.Seen.{seen_stmt}
 use Rattle.p4_statements.proofs.Ahead.{by_plain, no_write, place_ahead, place_no_call, place_no_index, place_no_validity, read_ahead, reads_on, validity_ahead, validity_no_call, validity_no_index}
 use Rattle.p4_statements.proofs.NoRead.{no_read_of}
@@ -25,31 +26,22 @@ use Rattle.p4_statements.proofs.plain.plain_statement.Goals as goal
 
 pub returns-then-is_at_write : goal.returns-then-is_at_write
 returns-then-is_at_write c =
-    record {
-      taken = c.write.ensures.taken;
-      few = c.write.ensures.few;
-      only = λ more stmt rest m.
-          by_plain more (λ s. IsReading ((more ≤ c.args.depth) × HasFew s) seen_stmt s rest (ahead c.write.new.reader) c.write.result) stmt m
-          (λ to value f. let p = place_ahead more to f in absurd (c.if-is_at_write.ensures.none refl (place_no_index p) (place_no_call p)))
-          (λ to reg cell f. let p = place_ahead more to f in absurd (c.if-is_at_write.ensures.none refl (place_no_index p) (place_no_call p)))
-          (λ reg cell value f. c.write.ensures.only more (reg, cell, value) rest f)
-          (λ header on f. let v = validity_ahead more header on f in absurd (c.if-is_at_write.ensures.none refl (validity_no_index v) (validity_no_call v)));
-      deep = c.write.ensures.deep;
-    }
+    any_form a_write c.write.ensures (λ more stmt rest m.
+    by_plain more (λ s. (of : _) × (a_write of ≡ s)) stmt m
+    (λ to value f. let p = place_ahead more to f in absurd (c.if-is_at_write.ensures.none refl (place_no_index p) (place_no_call p)))
+    (λ to reg cell f. let p = place_ahead more to f in absurd (c.if-is_at_write.ensures.none refl (place_no_index p) (place_no_call p)))
+    (λ reg cell value f. ((reg, cell, value), refl))
+    (λ header on f. let v = validity_ahead more header on f in absurd (c.if-is_at_write.ensures.none refl (validity_no_index v) (validity_no_call v))))
 
 pub returns-then-is_at_validity : goal.returns-then-is_at_validity
 returns-then-is_at_validity c =
-    record {
-      taken = c.validity.ensures.reads.taken;
-      few = c.validity.ensures.few;
-      only = λ more stmt rest m.
-          by_plain more (λ s. IsReading ((more ≤ c.args.depth) × HasFew s) seen_stmt s rest (ahead c.validity.new.reader) c.validity.result) stmt m
-          (λ to value f. let p = place_ahead more to f in let at = c.if-is_at_validity.ensures.0 refl in absurd (place_no_validity p at.0 at.1))
-          (λ to reg cell f. let p = place_ahead more to f in let at = c.if-is_at_validity.ensures.0 refl in absurd (place_no_validity p at.0 at.1))
-          (λ reg cell value f. absurd (no_write more reg cell value f (λ at. false≢true (c.if-is_at_write.ensures.index at)) (λ at. false≢true (c.if-is_at_write.ensures.call at))))
-          (λ header on f. reading_as _ _ _ _ _ _ _ (λ few. few.0) (c.validity.ensures.reads.only more (header, on) rest f tt));
-      deep = deep_as c.validity.result (λ s. inl s) c.validity.ensures.reads.deep;
-    }
+    let at = c.if-is_at_validity.ensures.0 refl in
+    any_form a_change c.validity.ensures (λ more stmt rest m.
+    by_plain more (λ s. (of : _) × (a_change of ≡ s)) stmt m
+    (λ to value f. absurd (place_no_validity (place_ahead more to f) at.0 at.1))
+    (λ to reg cell f. absurd (place_no_validity (place_ahead more to f) at.0 at.1))
+    (λ reg cell value f. absurd (no_write more reg cell value f (λ at. false≢true (c.if-is_at_write.ensures.index at)) (λ at. false≢true (c.if-is_at_write.ensures.call at))))
+    (λ header on f. ((header, on), refl)))
 
 pub returns-in_err-to : goal.returns-in_err-to
 returns-in_err-to c =

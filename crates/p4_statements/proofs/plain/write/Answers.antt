@@ -14,7 +14,7 @@ use Rattle.elastic_ast.specs.Seen.{seen_expr}
 use Rattle.p4_statements.proofs.Lines.{past}
 use Rattle.p4_expr.proofs.PartSpelling.{ends_index}
 use Rattle.p4_statements.specs.Statements.{SpellsPlain}
-use Rattle.p4_statements.proofs.FewReading.{refused_few_made}
+use Rattle.spelling.proofs.Refusals.{refused_few_made}
 use Rattle.spelling.proofs.Taking.{may, takes_both}
 use Rattle.p4_expr.proofs.InLines.{register_in_line}
 use Rattle.p4_statements.proofs.plain.write.Goals as goal

@@ -1,7 +1,7 @@
 use Rattle.std.proofs.Common.{codes}
 use Rattle.spelling.proofs.Bounds.{in_reserved}
 use Rattle.p4_statements.proofs.Lines.{past}
-use Rattle.p4_statements.proofs.FewReading.{behind_few}
+use Rattle.spelling.proofs.ByParts.{behind_few}
 use Rattle.spelling.proofs.Balance.{stays_reserved}
 use Rattle.p4_statements.proofs.statement.condition.Goals as goal
 

@@ -1,49 +1,37 @@
-use Rattle.spelling.proofs.Bounds.{if_deep, line_opens, never_deep, refused_deep, stop_as}
-use Rattle.spelling.proofs.Limits.{want_or}
-use Rattle.spelling.proofs.Only.{after, after_one, alone, same_end, wants, wants_one}
-use Rattle.spelling.proofs.Taking.{takes_both}
-use Rattle.p4_tables.proofs.EntrySpelling.{colon_ends, same_key}
-use Rattle.spelling.proofs.ByParts.{refused_within}
+use Rattle.std.proofs.Common.{Bool, codes, refl, rules, ℕ}
+use Rattle.p4_expr.proofs.PartsWithin.{lval_stays}
+use Rattle.p4_expr.specs.GoesOn.{EndsIndex}
+use Rattle.p4_expr.specs.Parts.{SpellsLval}
+use Rattle.spelling.specs.Grammar.{Grammar, ◌⨟◌, Sign}
+use Rattle.elastic_ast.specs.declared.statements.Lval.{Lval}
+use Rattle.spelling.specs.Readers.{itself}
+use Rattle.spelling.proofs.Balance.{stays_both, stays_sign}
+use Rattle.spelling.proofs.ByParts.{both_parts, no_first, no_second, with_sign, with_sign_before, words_within}
+use Rattle.spelling.proofs.Only.{takes_regroup, ungroup}
+use Rattle.p4_tables.specs.Tables.{SpellsKey, SpellsMatch}
+use Rattle.p4_tables.proofs.EntrySpelling.{colon_is_no_index, place_within, same_key}
 use Rattle.p4_tables.proofs.entries.key.Goals as goal
+
+-- a field with its colon, and how it matches with its semicolon
+abbrev FieldThen : ℕ → Lval → Grammar
+FieldThen depth field = SpellsLval depth field ⨟ Sign (codes ":")
+
+abbrev MatchThen : ℕ → Bool → Grammar
+MatchThen depth ternary = SpellsMatch ternary ⨟ Sign (codes ";")
 
 pub returns-in_err-field : goal.returns-in_err-field
 returns-in_err-field c =
-    refused_within _ c.from_residual.ensures.1
-    (λ more key rest m. wants m (λ b f s. c.in_err-field.ensures.only more key.field b f (colon_ends s)))
-    (if_deep _ (λ s. stop_as (λ ws. line_opens c.args.depth ws) s) c.in_err-field.ensures.deep)
-
-pub returns-in_err-sign : goal.returns-in_err-sign
-returns-in_err-sign c =
-    refused_within _ c.from_residual-in_err-sign.ensures.1
-    (λ more key rest m.
-    let r1 = after m (λ b f s. c.in_ok-field.ensures.only more key.field b f (colon_ends s)) in
-    want_or _ _ (wants_one _ _ r1.1 c.in_err-sign.ensures.refused))
-    (refused_deep _ _ _ _ c.in_err-sign.ensures.refused)
+    no_first {First = FieldThen} MatchThen (λ key. key.field) (λ key. key.ternary) _ (λ more x a b m. ungroup m) c.from_residual.ensures.1
+    (with_sign_before {Follows = EndsIndex} {Of = SpellsLval} {seen = itself} colon_is_no_index (λ old new r call. place_within (search rules)) c.in_err-field.ensures)
 
 pub returns-in_err-ternary : goal.returns-in_err-ternary
 returns-in_err-ternary c =
-    refused_within _ c.from_residual-in_err-ternary.ensures.1
-    (λ more key rest m.
-    let r1 = after m (λ b f s. c.in_ok-field.ensures.only more key.field b f (colon_ends s)) in
-    want_or _ _ (wants (after_one r1.1 c.in_ok-sign.ensures.taken) (λ b f s. c.in_err-ternary.ensures.only key.ternary b f)))
-    (never_deep _ _ c.in_err-ternary.ensures.shallow)
-
-pub returns-in_err-sign-2 : goal.returns-in_err-sign-2
-returns-in_err-sign-2 c =
-    refused_within _ c.from_residual-in_err-sign-2.ensures.1
-    (λ more key rest m.
-    let r1 = after m (λ b f s. c.in_ok-field.ensures.only more key.field b f (colon_ends s)) in
-    let r3 = after (after_one r1.1 c.in_ok-sign.ensures.taken) (λ b f s. c.in_ok-ternary.ensures.only key.ternary b f) in
-    want_or _ _ (wants_one _ _ (alone r3.1) c.in_err-sign-2.ensures.refused))
-    (refused_deep _ _ _ _ c.in_err-sign-2.ensures.refused)
+    no_second {First = FieldThen} {Then = MatchThen} (λ key. key.field) (λ key. key.ternary) {seen = itself} {first_seen = itself} {then_seen = itself} c.then_sign.new.reader c.in_ok-field.field _ (λ more x a b m. ungroup m) c.from_residual-in_err-ternary.ensures.1 (stays_both (lval_stays c.args.depth c.in_ok-field.field) (stays_sign (codes ":") refl refl))
+    (with_sign_before {Follows = EndsIndex} {Of = SpellsLval} {seen = itself} colon_is_no_index (λ old new r call. place_within (search rules)) c.in_ok-field.ensures)
+    (with_sign {Of = λ _. SpellsMatch} {seen = itself} (λ old new r call. words_within (search rules)) c.in_err-ternary.ensures)
 
 pub returns : goal.returns
 returns c =
-    record {
-      taken = takes_both c.in_ok-field.ensures.taken (takes_both c.in_ok-sign.ensures.taken (takes_both c.in_ok-ternary.ensures.taken c.in_ok-sign-2.ensures.taken));
-      only = λ more key rest m.
-          let r1 = after m (λ b f s. c.in_ok-field.ensures.only more key.field b f (colon_ends s)) in
-          let r3 = after (after_one r1.1 c.in_ok-sign.ensures.taken) (λ b f s. c.in_ok-ternary.ensures.only key.ternary b f) in
-          (same_key _ key r1.0 r3.0, same_end r3.1 c.in_ok-sign-2.ensures.taken);
-      deep = tt;
-    }
+    both_parts {Of = SpellsKey} {First = FieldThen} {Then = MatchThen} (λ key. key.field) (λ key. key.ternary) {seen = itself} {first_seen = itself} {then_seen = itself} c.then_sign.new.reader c.in_ok-field.field c.in_ok-ternary.ternary _ (λ more x a b m. ungroup m) (λ t. takes_regroup t) (λ x e f. same_key _ x e f)
+    (with_sign_before {Follows = EndsIndex} {Of = SpellsLval} {seen = itself} colon_is_no_index (λ old new r call. place_within (search rules)) c.in_ok-field.ensures)
+    (with_sign {Of = λ _. SpellsMatch} {seen = itself} (λ old new r call. words_within (search rules)) c.in_ok-ternary.ensures)

@@ -5,4 +5,4 @@ use Rattle.p4_tables.proofs.TablesWithin.{key_stays}
 use Rattle.p4_tables.proofs.entries.keys.Goals as goal
 
 pub returns : goal.returns
-returns c = up_to record { none = λ more one later a b m at. key_no_sign more one (codes "}") m at } (key_stays c.args.depth) (λ old new r call. search rules) c.until.ensures
+returns c = up_to record { none = λ more one later a b m at. key_no_sign more one (codes "}") m at } (key_stays c.args.depth) (λ old new r call. search rules) c.until_closed.ensures

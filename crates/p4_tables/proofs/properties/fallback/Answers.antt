@@ -1,4 +1,4 @@
-use Rattle.p4_tables.proofs.WordsUpTo.{behind_words}
+use Rattle.spelling.proofs.WordsUpTo.{behind_words}
 use Rattle.std.proofs.Common.{codes, refl}
 use Rattle.spelling.proofs.Balance.{stays_named, stays_sign}
 use Rattle.spelling.proofs.Bounds.{never_deep, refused_deep}

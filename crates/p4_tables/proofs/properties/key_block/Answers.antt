@@ -7,4 +7,4 @@ pub returns : goal.returns
 returns c =
     behind_word c.fixed_name.new.self (stays_named (codes "key")) c.in_ok-fixed_name.ensures.taken
     (behind_word c.sign.new.self (stays_sign (codes "=") refl refl) c.in_ok-sign.ensures.taken
-    (around refl (λ inner old new r call. search rules) c.in_brackets.ensures))
+    (around refl (λ inner old new r call. search rules) c.around.ensures))

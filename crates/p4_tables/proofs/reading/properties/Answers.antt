@@ -1,4 +1,4 @@
-use Rattle.p4_tables.proofs.WordsUpTo.{refused_up_to}
+use Rattle.spelling.proofs.Refusals.{refused_up_to}
 use Rattle.spelling.proofs.ByParts.{part_deep}
 use Rattle.spelling.specs.Readers.{ClosesNext}
 use Rattle.std.proofs.Common.{[], ◌∷◌, ◌≢◌, All, ap, refl, subst, sym, ◌∙◌}

@@ -5,4 +5,4 @@ use Rattle.std.proofs.Common.{refl, rules}
 use Rattle.p4_tables.proofs.reading.property_block.Goals as goal
 
 pub returns : goal.returns
-returns c = around {Of = SpellsProperties} {seen = seen_parts} refl (λ inner old new r call. search rules) c.in_brackets.ensures
+returns c = around {Of = SpellsProperties} {seen = seen_parts} refl (λ inner old new r call. search rules) c.around.ensures

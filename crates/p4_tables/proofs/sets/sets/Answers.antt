@@ -23,9 +23,9 @@ returns-then-not-is_at_sign c =
 
 pub returns : goal.returns
 returns c =
-    let r = around {Of = λ _. SpellsSetList} {seen = seen_sets} refl (λ inner old new r call. before_up_to {Follows = Ends set_list_signs} (λ rest at. ends_sign set_list_signs (codes ")") rest refl at) (search rules)) c.in_brackets.ensures in
+    let r = around {Of = λ _. SpellsSetList} {seen = seen_sets} refl (λ inner old new r call. before_up_to {Follows = Ends set_list_signs} (λ rest at. ends_sign set_list_signs (codes ")") rest refl at) (search rules)) c.around.ensures in
     record {
-      taken = IfOk-weaker c.in_brackets.result _ _ (λ sets t. takes_as (λ ws. inr) t) r.taken;
+      taken = IfOk-weaker c.around.result _ _ (λ sets t. takes_as (λ ws. inr) t) r.taken;
       only = λ more sets rest m ends. r.only more sets rest (brackets_there more sets m (c.if-not-is_at_sign.ensures.0 refl));
       deep = r.deep;
     }

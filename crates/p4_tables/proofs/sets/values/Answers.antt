@@ -1,7 +1,7 @@
-use Rattle.p4_tables.proofs.WordsUpTo.{words_within_up_to}
+use Rattle.spelling.proofs.WordsUpTo.{words_within_up_to}
 use Rattle.spelling.proofs.ByParts.{around}
 use Rattle.std.proofs.Common.{refl, rules}
 use Rattle.p4_tables.proofs.sets.values.Goals as goal
 
 pub returns : goal.returns
-returns c = around refl (λ inner old new r call. words_within_up_to (search rules)) c.in_brackets.ensures
+returns c = around refl (λ inner old new r call. words_within_up_to (search rules)) c.around.ensures

@@ -1,4 +1,4 @@
-use Rattle.std.proofs.Common.{arith}
+use Rattle.std.proofs.Common.{refl, arith}
 use Rattle.elx_bits.proofs.WordLaws.{cat_fits, cat_law}
 use Rattle.elx_bits.proofs.bits.Bits.cat.Goals as goal
 
@@ -9,5 +9,5 @@ invariant_of-result c = record {
   fits = cat_fits c.args.self.value c.args.low.value c.args.self.width c.args.low.width c.args.self.fits c.args.low.fits c.requires;
 }
 
-pub returns-clause-value : goal.returns-clause-value
-returns-clause-value c = cat_law c.args.self.value c.args.low.value c.args.self.width c.args.low.width c.args.self.fits c.args.low.fits c.requires
+pub returns : goal.returns
+returns c = record { width = refl; value = cat_law c.args.self.value c.args.low.value c.args.self.width c.args.low.width c.args.self.fits c.args.low.fits c.requires }

@@ -2,5 +2,5 @@ use Rattle.std.proofs.Common.{◌∙◌}
 use Rattle.elx_bits.proofs.WordLaws.{cut_law}
 use Rattle.elx_bits.proofs.bits.Bits.mul.Goals as goal
 
-pub returns-clause-value : goal.returns-clause-value
-returns-clause-value c = c.low_bits.ensures.value ∙ cut_law _ c.args.self.width c.args.self.within
+pub returns : goal.returns
+returns c = record { width = c.low_bits.ensures.width; value = c.low_bits.ensures.value ∙ cut_law _ c.args.self.width c.args.self.within }

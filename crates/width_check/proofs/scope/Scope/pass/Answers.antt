@@ -4,7 +4,7 @@ use Rattle.elastic_ast.specs.Seen.{seen_decl}
 use Rattle.elastic_ast.specs.Typing.Asked.{DeclKind}
 use Rattle.elastic_ast.specs.Typing.AskedOfNames.{top_names}
 use Rattle.width_check.specs.Table.{names_in}
-use Rattle.width_check.specs.Scoped.{before_of, entries_seen, named, are_distinct}
+use Rattle.width_check.specs.Scoped.{before_of, entries_seen, named_decls, are_distinct}
 use Rattle.width_check.proofs.ScopeLaws.{step_take, names_of_table, table_step, distinct_step, next_broken, refused_next, has_step}
 use Rattle.width_check.proofs.scope.Scope.pass.Goals as goal
 
@@ -28,7 +28,7 @@ invariant_of-self-2 c =
     let decl : Decl = get_or c.self.inside.decls.now c.self.inside.count c.index-self-self.result in
     let taken = step_take c.self.inside.decls.now c.self.inside.count decl (within inside c.args.self.now c.self.view_is c.requires) (here c.self.inside.decls.now c.self.inside.count c.index-self-self.result c.index-self-self.is) in
     record {
-      names = table_step (before_of inside) (seen_decl decl) (entries_seen c.self.inside.names.entries) (entries_seen c.declare.new.names.entries) c.in-Ok.ensures.added c.self.invariant.names ∙ ap named (sym taken);
+      names = table_step (before_of inside) (seen_decl decl) (entries_seen c.self.inside.names.entries) (entries_seen c.declare.new.names.entries) c.in-Ok.ensures.added c.self.invariant.names ∙ ap named_decls (sym taken);
       distinct = ap (λ z. are_distinct (top_names z)) taken
           ∙ distinct_step c.args.allow_reserved (before_of inside) (seen_decl decl) (names_in c.self.inside.names.entries) c.in-Ok.ensures.fresh (names_of_table c.self.inside.names.entries (before_of inside) c.self.invariant.names) c.self.invariant.distinct;
       utility = c.has_utility-self-inside.ensures ∙ has_step DeclKind.Utility (before_of inside) (seen_decl decl) _ c.self.inside.has_utility taken c.self.invariant.utility;
