@@ -12,6 +12,7 @@ pub mod TypedStays
 pub mod TypedHeaders
 pub mod TypedRegisters
 pub mod TypedWidths
+pub mod KnownLaws
 pub mod TypedOperands
 pub mod TypedSides
 pub mod TypedSymbols

@@ -21,7 +21,9 @@ pub use meaning_laws::shifts_are_of_words;
 pub use packet_examples::{examples_of_answers, examples_of_registers};
 pub use packet_laws::{law_of_parser_ends, law_of_taken_locations};
 pub use register_laws::{cells_are_apart, names_lead_to_cells};
-pub use typing_details::{names_in_detail, sizes_in_detail, tables_in_detail, values_in_detail};
+pub use typing_details::{
+    faults_stand_alone, names_in_detail, sizes_in_detail, tables_in_detail, values_in_detail,
+};
 pub use typing_examples::{
     names_are_declared_once_and_known, names_may_break_two_rules, parts_belong_together,
     registers_are_named_by_one_unit, sizes_and_indices_agree, tables_and_calls_agree,
@@ -29,7 +31,7 @@ pub use typing_examples::{
 };
 pub use typing_laws::{
     parsers_end_and_headers_are_declared, registers_are_apart, tables_run_what_they_list,
-    typed_programs_meet_the_premises,
+    typed_programs_meet_the_premises, types_are_known_and_wide,
 };
 pub use unit_examples::{
     flat_names, orders_of_two_units, units_of_a_sketch, units_of_conditions,

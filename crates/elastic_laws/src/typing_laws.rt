@@ -1,5 +1,6 @@
 //! What a typed program has, as laws over the definitions.
 
+ghost use Rattle.elastic_laws.specs.Typing.KnownTypes.{TypesAreKnownAndWide};
 ghost use Rattle.elastic_laws.specs.Typing.TypedPrograms.{OfEachTyped, MeetsPremises, EndsWithHeaders, RunsWhatItLists, HasRegistersApart};
 
 /// A typed program meets the premises of the laws of units and packets: no loop stands in a loop of its body, its tables run
@@ -22,4 +23,9 @@ pub fn tables_run_what_they_list()
 /// No two units name one register, a unit names one at most, and a unit in a loop names one of an array.
 pub fn registers_are_apart()
     ensures { OfEachTyped HasRegistersApart }
+{}
+
+/// What is typed in a scope of a typed program has a known type, and bits have a width from 1 to 128.
+pub fn types_are_known_and_wide()
+    ensures { TypesAreKnownAndWide }
 {}

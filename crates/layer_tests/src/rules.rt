@@ -105,6 +105,51 @@ const WIDTHS_AND_NUMBERS: [Broken; 6] = [
     ),
 ];
 
+const STEP_TABLES: [Broken; 7] = [
+    (
+        "a step table over an undeclared symbol",
+        "symbolic int rows; maximize(table(cols) {1: 0});",
+        Rule::UnknownName,
+        1,
+    ),
+    (
+        "a step table over a symbol of a later declaration",
+        "maximize(table(rows) {0: 0}); symbolic int rows;",
+        Rule::UnknownName,
+        0,
+    ),
+    (
+        "a first key above 0",
+        "symbolic int rows; maximize(1 - table(rows) {1: 0, 2: 5});",
+        Rule::BadTerm,
+        1,
+    ),
+    (
+        "a key twice",
+        "symbolic int rows; maximize(table(rows) {0: 0, 8: 50, 8: 60});",
+        Rule::BadTerm,
+        1,
+    ),
+    (
+        "keys that fall",
+        "symbolic int rows; maximize(table(rows) {0: 0, 8: 50, 9: 51, 7: 60});",
+        Rule::BadTerm,
+        1,
+    ),
+    (
+        "too great a key",
+        "symbolic int rows; maximize(table(rows) {0: 0, 1000000001: 1});",
+        Rule::BadTerm,
+        1,
+    ),
+    (
+        "too great a value",
+        "symbolic int rows; maximize(table(rows) {0: 1000000001});",
+        Rule::BadTerm,
+        1,
+    ),
+];
+
 const FIRST_OF_SEVERAL: [Broken; 4] = [
     (
         "the first of two declarations",
@@ -137,6 +182,7 @@ fn a_broken_rule_is_named_with_its_declaration(rt: HostRuntime) -> Result<(), Fa
     for rows in [
         UNKNOWN_AND_TWICE.as_slice(),
         WIDTHS_AND_NUMBERS.as_slice(),
+        STEP_TABLES.as_slice(),
         FIRST_OF_SEVERAL.as_slice(),
     ] {
         for (what, text, rule, decl) in rows {
@@ -186,7 +232,7 @@ fn at_most_64_terms_are_taken(rt: HostRuntime) -> Result<(), Fail> {
 }
 
 /// What is right, the text, and whether names with two underscores are allowed.
-const TAKEN: [(&str, &str, bool); 7] = [
+const TAKEN: [(&str, &str, bool); 8] = [
     ("no declaration", "", false),
     (
         "each form of declaration",
@@ -202,6 +248,11 @@ const TAKEN: [(&str, &str, bool); 7] = [
     (
         "the greatest number in maximize",
         "maximize(1000000000);",
+        false,
+    ),
+    (
+        "the greatest key and value of a step table",
+        "symbolic int rows; maximize(table(rows) {0: 1000000000, 1000000000: 0});",
         false,
     ),
     (

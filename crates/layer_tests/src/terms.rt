@@ -58,6 +58,15 @@ const BELOW_NOTHING: [Row; 5] = [
     (10, 1, true, -15),
 ];
 
+const STEPPED: [Row; 6] = [
+    (0, 0, true, 1),
+    (7, 4, true, -6),
+    (8, 5, true, 35),
+    (15, 4, true, 35),
+    (16, 5, true, 37),
+    (u64::MAX, u64::MAX, true, -18_446_744_073_709_551_562),
+];
+
 #[test]
 fn clauses_hold_and_utilities_are_worth_what_they_say(rt: HostRuntime) -> Result<(), Fail> {
     for (clauses, rows) in [
@@ -68,6 +77,10 @@ fn clauses_hold_and_utilities_are_worth_what_they_say(rt: HostRuntime) -> Result
         (
             "assume(rows - 5 > 1 - cols); maximize(7 - 2 * rows + cols - 3);",
             BELOW_NOTHING.as_slice(),
+        ),
+        (
+            "maximize(table(rows) {0: 1, 8: 50, 16: 60} - table(cols) {0: 0, 5: 7} - rows);",
+            STEPPED.as_slice(),
         ),
     ] {
         let terms = terms_of(rt.alloc(), clauses)?;

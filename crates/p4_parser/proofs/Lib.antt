@@ -16,3 +16,4 @@ pub mod ActionSpelling
 pub mod ControlSpelling
 pub mod BegunLaws
 pub mod FewDeclarations
+pub mod ActionBodies

@@ -1,6 +1,6 @@
 -- Laws of the grammar of whole programs, this project's own.
-use Rattle.std.specs.Prelude.{length, ◌≡◌, ℕ, ◌+◌, ◌≤◌, Bool, true, false, List, ◌∷◌, ◌++◌, codes}
-use Rattle.elastic_ast.specs.Tree.{PlainExpr, PlainStmt, PlainStmts, PlainTable, PlainProgram}
+use Rattle.std.specs.Prelude.{length, ◌≡◌, ℕ, ◌+◌, ◌≤◌, ◌&&◌, Bool, true, false, List, ◌∷◌, ◌++◌, codes}
+use Rattle.elastic_ast.specs.Tree.{PlainExpr, PlainStmt, PlainStmts, PlainAction, PlainTable, PlainProgram}
 use Rattle.elastic_ast.specs.declared.declarations.Key.{Key}
 use Rattle.spelling.specs.Words.{Word}
 use Rattle.spelling.specs.Grammar.{Begins, IsReserved, IsSign}
@@ -9,7 +9,7 @@ use Rattle.spelling.specs.Bounds.{Opens}
 use Rattle.p4_tables.specs.Tables.{Property, SpellsTable}
 use Rattle.p4_statements.specs.Statements.{SpellsStmt, SpellsStmts, SpellsBranch}
 use Rattle.p4_statements.specs.Begun.{StmtsBegun}
-use Rattle.p4_parser.specs.Declarations.{SpellsProgram}
+use Rattle.p4_parser.specs.Declarations.{SpellsAction, SpellsProgram}
 
 -- an `if` without `else` is spelled as the first branch of another only with brackets around it
 abbrev pub BranchesHaveBrackets : Type 0
@@ -50,3 +50,19 @@ BegunOpensJust = (after ws : List Word) (count : ℕ) → ((front back : List Wo
 -- a program has at most as many declarations as words
 abbrev pub DeclarationsAreFew : Type 0
 DeclarationsAreFew = (depth : ℕ) (program : PlainProgram) (ws : List Word) → SpellsProgram depth program ws → length program ≤ length ws
+
+-- a statement that has no others in it, and is no call and no application
+abbrev pub is_plain : PlainStmt → Bool
+is_plain (PlainStmt.Assign to value) = true
+is_plain (PlainStmt.Read to register cell) = true
+is_plain (PlainStmt.Write register cell value) = true
+is_plain (PlainStmt.Valid header on) = true
+is_plain _ = false
+
+abbrev pub are_plain : PlainStmts → Bool
+are_plain PlainStmts.nil = true
+are_plain (PlainStmts.cons first rest) = is_plain first && are_plain rest
+
+-- the body of an action that is spelled has plain statements alone
+abbrev pub ActionsArePlain : Type 0
+ActionsArePlain = (depth : ℕ) (action : PlainAction) (ws : List Word) → SpellsAction depth action ws → are_plain action.body ≡ true

@@ -1,6 +1,6 @@
 //! Laws of the grammar of whole programs, each the contract of an empty function.
 
-ghost use Rattle.p4_parser.specs.Laws.{BranchesHaveBrackets, DeclarationsAreFew, IfsAreOpen, NoTableHasTwoKeys, StatementsDeeper, ProgramsDeeper, StatementsOpen, ProgramsOpen, BegunOpens, BegunOpensJust};
+ghost use Rattle.p4_parser.specs.Laws.{ActionsArePlain, BranchesHaveBrackets, DeclarationsAreFew, IfsAreOpen, NoTableHasTwoKeys, StatementsDeeper, ProgramsDeeper, StatementsOpen, ProgramsOpen, BegunOpens, BegunOpensJust};
 
 /// An `if` without `else` is always open, and so, as the first branch of an `if` with `else`, it has brackets around it.
 pub fn law_of_open_ends()
@@ -34,4 +34,9 @@ pub fn law_of_open_brackets()
 pub fn law_of_begun_statements()
     ensures at_most { BegunOpens }
     ensures without_if { BegunOpensJust }
+{}
+
+/// The body of an action has plain statements alone: no block, branch, loop, call or application.
+pub fn law_of_action_bodies()
+    ensures { ActionsArePlain }
 {}

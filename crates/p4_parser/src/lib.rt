@@ -17,7 +17,7 @@ pub use grammar_examples::{
     touching_signs_close_two_types, worked_declarations_are_spelled,
 };
 pub use grammar_laws::{
-    law_of_begun_statements, law_of_few_declarations, law_of_greater_depths, law_of_open_brackets,
-    law_of_open_ends, no_table_has_two_key_properties,
+    law_of_action_bodies, law_of_begun_statements, law_of_few_declarations, law_of_greater_depths,
+    law_of_open_brackets, law_of_open_ends, no_table_has_two_key_properties,
 };
 pub use parsing::parse;

@@ -3,10 +3,10 @@ use Rattle.std.proofs.lemmas.List.{length-map}
 use Rattle.elastic_ast.specs.Seen.{seen_decl}
 use Rattle.spelling.specs.Words.{word_of}
 use Rattle.p4_parser.proofs.FewDeclarations.{few_declarations}
-use Rattle.width_check.specs.Broken.{most_declarations}
+use Rattle.width_check.specs.Sound.{most_declarations}
 use Rattle.p4all_top.specs.Limits.{most_source}
 use Rattle.std.proofs.Common.{◌≡◌, ℕ, ◌≤◌, true, false, List, [], ◌∷◌, length, Some, refl, sym, ap, ◌∙◌, subst, true≢false, arith, inl, inr}
-use Rattle.std.specs.Prelude.{◌⊎◌, Result, Ok, Err, All}
+use Rattle.std.specs.Prelude.{Result, Ok, Err, All}
 use Rattle.std.specs.List.{list_all}
 use Rattle.std.proofs.lemmas.Bool.{and_parts}
 use Rattle.std.proofs.lemmas.List.Elements.{All-nil, All-cons, All-get_or}
@@ -16,6 +16,7 @@ use Rattle.elastic_ast.specs.declared.declarations.Program.{Program}
 use Rattle.elastic_ast.specs.Seen.{seen_decls, seen_program}
 use Rattle.elastic_ast.specs.Tree.{PlainDecl, PlainProgram}
 use Rattle.elastic_ast.specs.Typing.Typed.{Typed}
+use Rattle.elastic_ast.proofs.Typing.TypedLaws.{walk_names}
 use Rattle.p4_lexer.specs.declared.token.Token.{Token}
 use Rattle.p4_lexer.specs.Tokens.{TokensOf}
 use Rattle.p4_lexer.proofs.OneReading.{one_list, bad_has_none}
@@ -30,12 +31,12 @@ use Rattle.spelling.specs.Reading.{IsReadWithin, NamesAtMost}
 use Rattle.spelling.specs.Words.{words}
 use Rattle.width_check.specs.declared.checking.CheckError.{CheckError}
 use Rattle.width_check.specs.declared.checking.CheckError.TheVariants as checked
-use Rattle.width_check.specs.Supported.{is_supported, HasOther}
-use Rattle.width_check.specs.Broken.{IsBroken}
+use Rattle.width_check.specs.Supported.{is_supported}
+use Rattle.width_check.specs.Broken.{BreaksFirst, OtherFirst, IsBroken}
 use Rattle.p4all_top.specs.declared.parsing.Refusal.{Refusal}
 use Rattle.p4all_top.specs.declared.parsing.Refusal.TheVariants as refusal
 use Rattle.p4all_top.specs.Refusing.{parser_refusal, check_refusal}
-use Rattle.p4all_top.specs.Source.{HasNoProgram, IsOnlyProgram, IsNoSource, IsRefusedBy, IsSourceRefused}
+use Rattle.p4all_top.specs.Source.{HasNoProgram, IsOnlyProgram, IsNoSource, IsRefusedBy, IsSourceRefused, SpellsOne}
 
 abbrev OnlyReads : List ℕ → List Token → Result Program SyntaxError → Type 0
 OnlyReads text given result = (more : ℕ) (program : PlainProgram) → SpellsProgram more program (words text given) → IsReadWithin ((more ≤ most_brackets) × ProgramHasFew program) seen_program program result
@@ -95,24 +96,22 @@ program_is text tokens given tree read = record {
 same_tree : (text : List ℕ) (tokens given : List Token) (tree : Program) (program : PlainProgram) → IsParsed text tokens given tree → IsProgramOf text program → program ≡ seen_program tree
 same_tree text tokens given tree program read spells = sym (read.only most_brackets program (spelled_by text tokens given program read.of read.same spells))
 
+spells_one : (Holds : PlainProgram → Type 0) (text : List ℕ) (tokens given : List Token) (tree : Program) → IsParsed text tokens given tree → Holds (seen_program tree) → SpellsOne Holds text
+spells_one Holds text tokens given tree read holds = record {
+  program = seen_program tree;
+  spelled = program_is text tokens given tree read;
+  only = λ other spells. same_tree text tokens given tree other read spells;
+  holds = holds;
+}
+
 -- where the program isn't taken
 pub refused_program : (text : List ℕ) (tokens given : List Token) (tree : Program) (error : CheckError) (why : Refusal) → IsParsed text tokens given tree → IsBroken false (seen_program tree) error → check_refusal error ≡ Some why → IsRefusedBy text why
 refused_program text tokens given tree (checked.Broken found) why read broken is =
-    let same : refusal.NotYet ≡ why = cc in
-    subst (λ (z : Refusal). IsRefusedBy text z) same record {
-      program = seen_program tree;
-      spelled = program_is text tokens given tree read;
-      only = λ other spells. same_tree text tokens given tree other read spells;
-      not_taken = inr (λ typed. typed found.rule found.decl broken);
-    }
+    let same : refusal.Rule found.rule found.decl ≡ why = cc in
+    subst (λ (z : Refusal). IsRefusedBy text z) same (spells_one (λ program. BreaksFirst false program found.rule found.decl) text tokens given tree read broken)
 refused_program text tokens given tree checked.NotYet why read broken is =
     let same : refusal.NotYet ≡ why = cc in
-    subst (λ (z : Refusal). IsRefusedBy text z) same record {
-      program = seen_program tree;
-      spelled = program_is text tokens given tree read;
-      only = λ other spells. same_tree text tokens given tree other read spells;
-      not_taken = inl broken;
-    }
+    subst (λ (z : Refusal). IsRefusedBy text z) same (spells_one (OtherFirst false) text tokens given tree read broken)
 refused_program text tokens given tree checked.Memory why read broken is = absurd (cc is)
 
 all_supported : (decls : List PlainDecl) → list_all is_supported decls ≡ true → All (λ decl. is_supported decl ≡ true) decls
@@ -133,12 +132,12 @@ only_program text tokens given tree taken read same typed supported =
     }
 
 -- a program without other declarations has none
-no_other : (decls : List PlainDecl) → All (λ decl. is_supported decl ≡ true) decls → HasOther decls → ⊥
-no_other decls supported (number, decl, there, other) =
-    let is : is_supported decl ≡ true =
-    subst (λ (z : PlainDecl). is_supported z ≡ true) (get_or_from_slice_get decls number decl decl there)
-    (All-get_or (λ decl. is_supported decl ≡ true) decls number decl (slice_get_within decls number decl there) supported) in
-    true≢false (sym is ∙ other)
+no_other : (decls : List PlainDecl) → All (λ decl. is_supported decl ≡ true) decls → OtherFirst false decls → ⊥
+no_other decls supported o =
+    let is : is_supported o.decl ≡ true =
+    subst (λ (z : PlainDecl). is_supported z ≡ true) (get_or_from_slice_get decls o.number o.decl o.decl o.here)
+    (All-get_or (λ decl. is_supported decl ≡ true) decls o.number o.decl (slice_get_within decls o.number o.decl o.here) supported) in
+    true≢false (sym is ∙ o.other)
 
 -- a text that is refused has no program
 pub refused_has_none : (text : List ℕ) (why : Refusal) → IsRefusedBy text why → HasNoProgram text
@@ -147,14 +146,10 @@ refused_has_none text (refusal.Number at) bad decls program = bad_has_none text 
 refused_has_none text (refusal.Comment at) bad decls program = bad_has_none text at bad.0 program.spelled.tokens program.spelled.tokens_are
 refused_has_none text (refusal.Syntax token) bad decls program = bad.none most_brackets decls (spelled_by text bad.tokens bad.tokens decls bad.tokens_are refl program.spelled)
 refused_has_none text (refusal.Deep token) bad decls program = bad.none decls program.spelled
-refused_has_none text refusal.NotYet bad decls program = by bad.not_taken
-  where
-    same : decls ≡ bad.program
-    same = bad.only decls program.spelled
-
-    by : HasOther bad.program ⊎ (Typed false bad.program → ⊥) → ⊥
-    by (inl other) = no_other bad.program (subst (λ (z : PlainProgram). All (λ decl. is_supported decl ≡ true) z) same program.supported) other
-    by (inr untyped) = untyped (subst (λ (z : PlainProgram). Typed false z) same program.typed)
+refused_has_none text (refusal.Rule rule decl) bad decls program =
+    subst (λ (z : PlainProgram). Typed false z) (bad.only decls program.spelled) program.typed rule decl (walk_names false bad.program rule decl bad.holds.first)
+refused_has_none text refusal.NotYet bad decls program =
+    no_other bad.program (subst (λ (z : PlainProgram). All (λ decl. is_supported decl ≡ true) z) (bad.only decls program.spelled) program.supported) bad.holds
 refused_has_none text _ bad decls program = bad
 
 -- a source that is refused isn't taken
@@ -165,5 +160,6 @@ refused_source text (refusal.Number at) bad = inr (refused_has_none text (refusa
 refused_source text (refusal.Comment at) bad = inr (refused_has_none text (refusal.Comment at) bad.1)
 refused_source text (refusal.Syntax token) bad = inr (refused_has_none text (refusal.Syntax token) bad.1)
 refused_source text (refusal.Deep token) bad = inr (refused_has_none text (refusal.Deep token) bad.1)
+refused_source text (refusal.Rule rule decl) bad = inr (refused_has_none text (refusal.Rule rule decl) bad.1)
 refused_source text refusal.NotYet bad = inr (refused_has_none text refusal.NotYet bad.1)
 refused_source text _ bad = absurd bad.1

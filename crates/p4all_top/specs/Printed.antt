@@ -1,10 +1,12 @@
 -- The lines that the commands print; this project's own.
 use Rattle.std.specs.Prelude.{ℕ, ℤ, pos, List, [], ◌∷◌, codes}
+use Rattle.elastic_ast.specs.declared.rule.Rule.{Rule}
 use Rattle.elx_io.specs.Lines.{with_word, with_number, with_end}
 use Rattle.target_desc.specs.TargetKeys.{key_text}
 use Rattle.target_desc.specs.declared.key_name.KeyName.{KeyName}
 use Rattle.p4all_top.specs.declared.parsing.Refusal.{Refusal}
 use Rattle.p4all_top.specs.declared.parsing.Refusal.TheVariants as refusal
+use Rattle.p4all_top.specs.RuleNames.{rule_text}
 
 -- a text and the line `size NAME VALUE`
 abbrev pub with_size : List ℕ → List ℕ → ℕ → List ℕ
@@ -49,6 +51,14 @@ notyet_text = with_end (begun_refusal (codes "notyet"))
 abbrev pub source_text : List ℕ → ℕ → List ℕ
 source_text cause place = with_end (with_number (begun_cause (codes "src") cause) (pos place))
 
+-- the line `refused src rule RULE ..` so far
+abbrev pub begun_rule : Rule → List ℕ
+begun_rule rule = with_word (begun_cause (codes "src") (codes "rule")) (rule_text rule)
+
+-- the line `refused src rule RULE DECL`
+abbrev pub rule_line_text : Rule → ℕ → List ℕ
+rule_line_text rule decl = with_end (with_number (begun_rule rule) (pos decl))
+
 -- the line `refused target CAUSE KEY`
 abbrev pub target_text : List ℕ → KeyName → List ℕ
 target_text cause key = with_end (with_word (begun_cause (codes "target") cause) (key_text key))
@@ -62,6 +72,7 @@ refusal_text (refusal.Number at) = source_text (codes "number") at
 refusal_text (refusal.Comment at) = source_text (codes "comment") at
 refusal_text (refusal.Syntax token) = source_text (codes "syntax") token
 refusal_text (refusal.Deep token) = source_text (codes "deep") token
+refusal_text (refusal.Rule rule decl) = rule_line_text rule decl
 refusal_text refusal.Toml = refused_text (codes "target") (codes "toml")
 refusal_text refusal.UnknownKey = refused_text (codes "target") (codes "unknown")
 refusal_text (refusal.MissingKey key) = target_text (codes "missing") key

@@ -14,7 +14,8 @@ use Rattle.p4_parser.specs.ProgramOf.{IsProgramOf, most_brackets}
 use Rattle.p4_parser.specs.Reaching.{ProgramPassed}
 use Rattle.spelling.specs.Bounds.{PassedAt}
 use Rattle.spelling.specs.Words.{words}
-use Rattle.width_check.specs.Supported.{is_supported, HasOther}
+use Rattle.width_check.specs.Broken.{BreaksFirst, OtherFirst}
+use Rattle.width_check.specs.Supported.{is_supported}
 use Rattle.p4all_top.specs.Limits.{IsTaken, most_source}
 use Rattle.p4all_top.specs.declared.parsing.Refusal.{Refusal}
 use Rattle.p4all_top.specs.declared.parsing.Refusal.TheVariants as refusal
@@ -51,12 +52,12 @@ pub record SpellsTooDeep (text : List ℕ) (token : ℕ) : Type 0 where
   pub passed : PassedAt (ProgramPassed most_brackets) text tokens 0 token
   pub none : (program : PlainProgram) → IsProgramOf text program → ⊥
 
--- the text spells one program and no other, which has other declarations or isn't typed
-pub record SpellsOther (text : List ℕ) : Type 0 where
+-- the text spells one program and no other, of which this holds
+pub record SpellsOne (Holds : PlainProgram → Type 0) (text : List ℕ) : Type 0 where
   pub program : PlainProgram
   pub spelled : IsProgramOf text program
   pub only : (other : PlainProgram) → IsProgramOf text other → other ≡ program
-  pub not_taken : HasOther program ⊎ (Typed false program → ⊥)
+  pub holds : Holds program
 
 -- why a text spells no typed program of these declarations
 abbrev pub IsRefusedBy : List ℕ → Refusal → Type 0
@@ -65,7 +66,8 @@ IsRefusedBy text (refusal.Number at) = IsBad text (lexed.BadNumber at)
 IsRefusedBy text (refusal.Comment at) = IsBad text (lexed.OpenComment at)
 IsRefusedBy text (refusal.Syntax token) = SpellsNothing text token
 IsRefusedBy text (refusal.Deep token) = SpellsTooDeep text token
-IsRefusedBy text refusal.NotYet = SpellsOther text
+IsRefusedBy text (refusal.Rule rule decl) = SpellsOne (λ program. BreaksFirst false program rule decl) text
+IsRefusedBy text refusal.NotYet = SpellsOne (OtherFirst false) text
 IsRefusedBy text _ = ⊥
 
 -- what is found in a text: its one typed program, or why it spells none

@@ -5,6 +5,7 @@ mod output;
 mod parsing;
 mod printing;
 mod reading;
+mod rule_names;
 mod size_command;
 #[cfg(test)]
 mod size_tests;

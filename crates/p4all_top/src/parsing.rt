@@ -12,10 +12,10 @@ use p4_parser::parse;
 use spelling::SyntaxError;
 use std::alloc::{AllocError, Global};
 use target_desc::{KeyName, Target, TargetError};
-use width_check::{CheckError, Checked, check, program};
+use width_check::{CheckError, Checked, Rule, TypeError, check, program};
 
-/// Why a source or a target's description isn't taken. Places in the source are in bytes, and tokens of it are numbered; both
-/// count from 0.
+/// Why a source or a target's description isn't taken. Places in the source are in bytes, and its tokens and declarations are
+/// numbered; all count from 0.
 #[derive(Clone, Copy, Debug, PartialEq, Eq)]
 pub enum Refusal {
     /// The source has more bytes than a source may have.
@@ -32,6 +32,8 @@ pub enum Refusal {
     Syntax { token: u32 },
     /// This token of the source passes the number of brackets that may be open, or that of operators of an expression.
     Deep { token: u32 },
+    /// The source is a program whose declaration with this number is the first to break a rule of types, and breaks this one first.
+    Rule { rule: Rule, decl: u32 },
     /// The description is no TOML document.
     Toml,
     /// The description has a key that no number of a target has.
@@ -40,7 +42,7 @@ pub enum Refusal {
     MissingKey { key: KeyName },
     /// The description has no whole number in its range at this key of a target, the first such.
     OutOfRange { key: KeyName },
-    /// The source has other declarations than those that are taken so far, or isn't typed.
+    /// The source has other declarations than those that are taken so far.
     NotYet,
 }
 
@@ -98,7 +100,8 @@ fn refused_by_check(error: CheckError) -> Result<Refusal, AllocError>
     ensures { IfOk result (λ refusal. check_refusal error ≡ Some refusal) }
 {
     match error {
-        CheckError::Broken(_) | CheckError::NotYet => Ok(Refusal::NotYet),
+        CheckError::Broken(TypeError { rule, decl }) => Ok(Refusal::Rule { rule, decl }),
+        CheckError::NotYet => Ok(Refusal::NotYet),
         CheckError::Memory => Err(AllocError),
     }
 }

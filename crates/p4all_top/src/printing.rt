@@ -2,13 +2,15 @@
 
 ghost use Rattle.std.specs.Prelude.{◌≡◌, ◌≤◌, length, IfOk, OnOk};
 ghost use Rattle.p4all_top.specs.Printed.{with_size, with_utility, sizes_text, infeasible_text, unbounded_text};
-ghost use Rattle.p4all_top.specs.Printed.{notyet_text, begun_cause, begun_refusal, refused_text, source_text, target_text, refusal_text};
+ghost use Rattle.p4all_top.specs.Printed.{notyet_text, begun_cause, begun_refusal, begun_rule, refused_text, source_text, rule_line_text, target_text, refusal_text};
 
 use crate::parsing::Refusal;
+use crate::rule_names::rule_name;
 use elx_bits::Name;
 use elx_io::Lines;
 use std::alloc::{AllocError, Global};
 use target_desc::KeyName;
+use width_check::Rule;
 
 /// Adds the line of one symbol.
 fn put_size(lines: &mut Lines, symbol: &Name, size: u64) -> Result<(), AllocError>
@@ -76,6 +78,7 @@ pub fn refusal_line(alloc: Global, refusal: Refusal) -> Result<Lines, AllocError
         Refusal::Comment { at } => source_line(alloc, b"comment", at),
         Refusal::Syntax { token } => source_line(alloc, b"syntax", token),
         Refusal::Deep { token } => source_line(alloc, b"deep", token),
+        Refusal::Rule { rule, decl } => rule_line(alloc, rule, decl),
         Refusal::Toml => refused_line(alloc, b"target", b"toml"),
         Refusal::UnknownKey => refused_line(alloc, b"target", b"unknown"),
         Refusal::MissingKey { key } => target_line(alloc, b"missing", key),
@@ -128,6 +131,25 @@ fn source_line(alloc: Global, cause: &[u8], place: u32) -> Result<Lines, AllocEr
 {
     let mut lines = cause_begun(alloc, b"src", cause)?;
     lines.number(i128::from(place))?;
+    lines.end()?;
+    Ok(lines)
+}
+
+/// The begin of the line that refuses a source for a rule of types.
+fn rule_begun(alloc: Global, rule: Rule) -> Result<Lines, AllocError>
+    ensures { IfOk result (λ lines. lines ≡ begun_rule rule) }
+{
+    let mut lines = cause_begun(alloc, b"src", b"rule")?;
+    lines.word(rule_name(rule).as_bytes())?;
+    Ok(lines)
+}
+
+/// The line that refuses a source for a rule of types that this declaration breaks.
+fn rule_line(alloc: Global, rule: Rule, decl: u32) -> Result<Lines, AllocError>
+    ensures { IfOk result (λ lines. lines ≡ rule_line_text rule decl) }
+{
+    let mut lines = rule_begun(alloc, rule)?;
+    lines.number(i128::from(decl))?;
     lines.end()?;
     Ok(lines)
 }

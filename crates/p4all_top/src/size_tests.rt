@@ -39,7 +39,7 @@ fn run(
 }
 
 /// A source, the header bits of its target, and what `size` ends with and prints.
-const ROWS: [(&str, u32, Status, &str); 21] = [
+const ROWS: [(&str, u32, Status, &str); 24] = [
     (
         ROWS_AND_COLS,
         64,
@@ -55,6 +55,24 @@ const ROWS: [(&str, u32, Status, &str); 21] = [
     (ROWS_AND_COLS, 0, Status::Infeasible, "infeasible\n"),
     ("maximize(7);", 64, Status::Done, "utility 7\n"),
     ("", 64, Status::Done, "utility 0\n"),
+    (
+        "symbolic int a; assume(a <= 40); maximize(table(a){0:0, 8:50, 16:60} - a);",
+        64,
+        Status::Done,
+        "size a 16\nutility 44\n",
+    ),
+    (
+        "symbolic int a; symbolic int b; assume(a <= 9 && b <= 3); maximize(3*a + b - table(a){0:0, 4:20});",
+        64,
+        Status::Done,
+        "size a 3\nsize b 3\nutility 12\n",
+    ),
+    (
+        "symbolic int a; symbolic int b; assume(a + b <= 9); maximize(table(b){0:1, 4:5, 6:6} + table(a){0:0, 4:3});",
+        64,
+        Status::Done,
+        "size a 4\nsize b 4\nutility 8\n",
+    ),
     (
         "symbolic int x; assume(x >= 5 && x <= 4); maximize(x);",
         64,
@@ -171,25 +189,44 @@ fn refuses(alloc: Global, source: &[u8], target: &[u8], line: &str) -> Result<bo
     Ok(ended == Status::Refused && out.bytes() == line.as_bytes())
 }
 
-#[test]
-fn what_is_not_built_yet_is_refused(rt: HostRuntime) -> Result<(), Fail> {
-    let target = one_stage(rt.alloc(), 64)?;
-    let rows = [
-        "symbolic int s; assume(s <= 1000000); maximize(0 - s);",
-        "symbolic int s; symbolic int s;",
-        "symbolic int a__1;",
-        "maximize(x);",
-        "header h_t { bit<8> v; }",
-    ];
-    for source in rows {
-        let refused = refuses(
-            rt.alloc(),
-            source.as_bytes(),
-            target.as_bytes(),
-            "refused notyet\n",
-        )?;
-        assert!(rt; refused, "{source}");
+/// A utility with one step table of this many keys, each worth itself.
+fn stepped(alloc: Global, keys: u32) -> Result<String, AllocError> {
+    let mut pairs = String::new(alloc);
+    pairs.push_str("0: 0")?;
+    for key in 1..keys {
+        let pair = format!(in alloc; ", {key}: {key}")?;
+        pairs.push_str(pair.as_str())?;
     }
+    format!(in alloc; "symbolic int a; assume(a <= 99); maximize(table(a) {{ {pairs} }});")
+}
+
+#[test]
+fn a_step_table_has_64_keys_at_most(rt: HostRuntime) -> Result<(), Fail> {
+    let target = one_stage(rt.alloc(), 64)?;
+    for (keys, status, printed) in [
+        (64, Status::Done, "size a 63\nutility 63\n"),
+        (65, Status::Refused, "refused src rule BadTerm 2\n"),
+    ] {
+        let source = stepped(rt.alloc(), keys)?;
+        let (ended, out) = run(rt.alloc(), source.as_bytes(), target.as_bytes(), &[])?;
+        assert_eq!(rt; ended, status, "{keys}");
+        assert_eq!(rt; out.bytes(), printed.as_bytes(), "{keys}");
+    }
+    Ok(())
+}
+
+#[test]
+fn a_utility_has_at_most_sixty_four_terms(rt: HostRuntime) -> Result<(), Fail> {
+    let target = one_stage(rt.alloc(), 64)?;
+    let more = " + 1".repeat(rt.alloc(), 64)?;
+    let source = format!(in rt.alloc(); "symbolic int s; maximize(1{more});")?;
+    let refused = refuses(
+        rt.alloc(),
+        source.as_bytes(),
+        target.as_bytes(),
+        "refused src rule BadTerm 1\n",
+    )?;
+    assert!(rt; refused);
     Ok(())
 }
 
@@ -220,18 +257,50 @@ fn a_description_is_refused_for_its_first_cause(rt: HostRuntime) -> Result<(), F
     Ok(())
 }
 
+/// A source, and the line that refuses it.
+const REFUSED: [(&str, &str); 18] = [
+    ("a $", "refused src byte 2\n"),
+    ("const bit<8> a = 129w1;", "refused src number 17\n"),
+    ("/*", "refused src comment 0\n"),
+    ("symbolic int int;", "refused src syntax 2\n"),
+    ("maximize(7)", "refused src syntax 4\n"),
+    ("maximize(7; $", "refused src byte 12\n"),
+    ("symbolic int a__1;", "refused src rule ReservedName 0\n"),
+    (
+        "symbolic int s; symbolic int s;",
+        "refused src rule Twice 1\n",
+    ),
+    ("maximize(x);", "refused src rule UnknownName 0\n"),
+    ("maximize(1); maximize(x);", "refused src rule Twice 1\n"),
+    (
+        "symbolic int a; assume(a <= 9); maximize(table(b){0:0});",
+        "refused src rule UnknownName 2\n",
+    ),
+    (
+        "symbolic int a; assume(a <= 9); maximize(table(a){1:0});",
+        "refused src rule BadTerm 2\n",
+    ),
+    (
+        "symbolic int s; maximize(table(s) {0: 1, 2: 3, 2: 4});",
+        "refused src rule BadTerm 1\n",
+    ),
+    ("struct meta_t { bit<0> x; }", "refused src rule Width 0\n"),
+    (
+        "maximize(x); header h_t { bit<8> v; }",
+        "refused src rule UnknownName 0\n",
+    ),
+    ("header h_t { bit<8> v; } maximize(x);", "refused notyet\n"),
+    ("header h_t { bit<8> v; }", "refused notyet\n"),
+    (
+        "symbolic int s; assume(s <= 1000000); maximize(0 - s);",
+        "refused notyet\n",
+    ),
+];
+
 #[test]
-fn what_is_no_program_is_refused_with_its_place(rt: HostRuntime) -> Result<(), Fail> {
+fn a_source_is_refused_for_its_first_cause(rt: HostRuntime) -> Result<(), Fail> {
     let target = one_stage(rt.alloc(), 64)?;
-    let rows = [
-        ("a $", "refused src byte 2\n"),
-        ("const bit<8> a = 129w1;", "refused src number 17\n"),
-        ("/*", "refused src comment 0\n"),
-        ("symbolic int int;", "refused src syntax 2\n"),
-        ("maximize(7)", "refused src syntax 4\n"),
-        ("maximize(7; $", "refused src byte 12\n"),
-    ];
-    for (source, line) in rows {
+    for (source, line) in REFUSED {
         let refused = refuses(rt.alloc(), source.as_bytes(), target.as_bytes(), line)?;
         assert!(rt; refused, "{source}");
     }

@@ -6,3 +6,4 @@ pub mod CoefficientLaws
 pub mod RowLaws
 pub mod WorthLaws
 pub mod BuildLaws
+pub mod TableLaws

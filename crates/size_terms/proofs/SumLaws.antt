@@ -107,6 +107,15 @@ sum_is a x h =
     let f : to_z w128 (of_z w128 x) ≡ x = to_z-of_z w128 x (fits_small x (omega arith)) in
     ap (λ z. z +ℤ to_z w128 (of_z w128 x)) e ∙ ap (λ z. a +ℤ z) f
 
+-- three numbers added up, as they are computed
+pub sum_of_three : (a x y : ℤ) → unsigned_abs a + unsigned_abs x + unsigned_abs y < 2 ^ 100
+    → to_z w128 (of_z w128 (to_z w128 (of_z w128 (to_z w128 (of_z w128 a) +ℤ to_z w128 (of_z w128 x))) +ℤ to_z w128 (of_z w128 y))) ≡ (a +ℤ x) +ℤ y
+sum_of_three a x y h =
+    let both : unsigned_abs (a +ℤ x) ≤ unsigned_abs a + unsigned_abs x = abs_sum a x in
+    let first = ap (λ z. to_z w128 (of_z w128 z)) (sum_is a x (omega arith)) ∙ to_z-of_z w128 (a +ℤ x) (fits_sum a x (omega arith)) in
+    let last = to_z-of_z w128 y (fits_small y (omega arith)) in
+    ap (λ z. to_z w128 (of_z w128 (z +ℤ to_z w128 (of_z w128 y)))) first ∙ ap (λ z. to_z w128 (of_z w128 ((a +ℤ x) +ℤ z))) last ∙ to_z-of_z w128 ((a +ℤ x) +ℤ y) (fits_sum (a +ℤ x) y (omega (arith, both)))
+
 pub any_default : (xs : List ℤ) (i : ℕ) (d e : ℤ) → i < length xs → get_or xs i d ≡ get_or xs i e
 any_default [] i d e h = absurd (omega arith)
 any_default (x ∷ xs) zero d e h = refl

@@ -1,9 +1,10 @@
 -- How a sum of sizes grows term by term; this project's own.
-use Rattle.std.specs.Prelude.{◌≡◌, ℕ, ◌+◌, ◌*◌, ◌*ℤ◌, ◌≤◌, Bool, List, length, map, ℤ, pos, ◌+ℤ◌, neg_ℤ, unsigned_abs, nat_le}
+use Rattle.std.specs.Prelude.{◌≡◌, ℕ, ◌+◌, ◌*◌, ◌*ℤ◌, ◌≤◌, Bool, List, [], ◌∷◌, length, map, ℤ, pos, ◌+ℤ◌, neg_ℤ, unsigned_abs, nat_le}
 use Rattle.elastic_ast.specs.declared.declarations.LinTerm.{LinTerm}
 use Rattle.elastic_ast.specs.declared.declarations.UtilTerm.{UtilTerm}
+use Rattle.elastic_ast.specs.declared.declarations.UtilTerm.TheVariants as util
 use Rattle.elastic_ast.specs.Tree.{Name}
-use Rattle.elastic_ast.specs.Sizes.SizeSums.{size_of, negated_if, term_value, sum_value, util_value}
+use Rattle.elastic_ast.specs.Sizes.SizeSums.{size_of, negated_if, term_value, sum_value}
 use Rattle.elastic_ast.specs.Typing.LanguageLimits.{most_number}
 use Rattle.size_terms.specs.declared.sums.Sum.{Sum}
 use Rattle.size_terms.specs.Rows.{dot, coefficient_weight}
@@ -38,9 +39,18 @@ abbrev pub GrowsByTerms : List Name → Sum → Sum → Bool → List LinTerm �
 GrowsByTerms symbols old new minus terms =
     Grows old new (λ sizes. negated_if minus (sum_value symbols sizes terms)) (most_number * length terms)
 
+-- what a term of the utility adds to its sum: nothing, where it is a step table
+abbrev pub linear_value : List Name → List ℕ → UtilTerm → ℤ
+linear_value symbols sizes (util.Lin term) = term_value symbols sizes term
+linear_value symbols sizes (util.Steps minus symbol pairs) = pos 0
+
+abbrev pub linears_value : List Name → List ℕ → List UtilTerm → ℤ
+linears_value symbols sizes [] = pos 0
+linears_value symbols sizes (term ∷ terms) = linear_value symbols sizes term +ℤ linears_value symbols sizes terms
+
 -- by a term of the utility
 abbrev pub GrowsByUtility : List Name → Sum → Sum → UtilTerm → Type 0
-GrowsByUtility symbols old new term = Grows old new (λ sizes. util_value symbols sizes term) most_number
+GrowsByUtility symbols old new term = Grows old new (λ sizes. linear_value symbols sizes term) most_number
 
 -- the sum of nothing
 pub record IsZero (sum : Sum) (symbols : ℕ) : Type 0 where

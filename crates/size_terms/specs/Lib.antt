@@ -4,5 +4,6 @@ pub mod Coefficients
 pub mod Growth
 pub mod Building
 pub mod RowsMean
+pub mod Tables
 pub mod SumLimits
 pub mod TermsMean

@@ -7,7 +7,8 @@ ghost use Rattle.elastic_ast.specs.Sizes.SizeSums.{symbol_name, symbols_of, comp
 ghost use Rattle.width_check.specs.Sound.{IsSound};
 ghost use Rattle.size_terms.specs.Rows.{AreShort, worth};
 ghost use Rattle.size_terms.specs.Coefficients.{rows_of};
-ghost use Rattle.size_terms.specs.Building.{AddsComps, is_short, is_near_util, IsUtility};
+ghost use Rattle.size_terms.specs.Building.{AddsComps, is_short, is_near_util, IsLinearPart};
+ghost use Rattle.size_terms.specs.Tables.{tables_of};
 ghost use Rattle.size_terms.specs.Growth.{bulk, GrowsByUtility};
 ghost use Rattle.size_terms.specs.RowsMean.{RowsSayComparisons};
 ghost use Rattle.size_terms.specs.SumLimits.{most_bulk};
@@ -17,10 +18,18 @@ ghost use Rattle.size_terms.specs.TermsMean.{AreAssumeRows, IsUtilityOf, SayAssu
 use crate::comparisons::push_comparison;
 use crate::places::Places;
 use crate::sums::{Sum, add_term, zero_sum};
-use elastic_ast::{Comp, Decl, Linear, Terms, UtilTerm};
+use crate::tables::step_tables;
+use elastic_ast::{Comp, Decl, Linear, Steps, Terms, UtilTerm};
 use elx_bits::{Items, Name};
 use std::alloc::{AllocError, Global};
 use width_check::{Checked, program};
+
+/// A utility: its linear terms as a sum, and its step tables.
+#[derive(Drop)]
+struct Utility {
+    sum: Sum,
+    tables: Items<Steps>,
+}
 
 /// The names of the symbols, in the order of declaration.
 fn symbol_names(alloc: Global, decls: &[Decl]) -> Result<Items<Name>, AllocError>
@@ -101,11 +110,11 @@ fn util_terms_of<'a>(decls: &'a [Decl]) -> &'a [UtilTerm]
     &[]
 }
 
-/// Adds a term of the utility.
+/// Adds a term of the utility, if it is no step table.
 fn add_util(places: &Places<'_>, sum: &mut Sum, term: &UtilTerm)
     requires dense { length sum.old.by.items ≡ length places.now }
     requires small { bulk sum.old ≤ most_bulk }
-    requires near { is_near_util term.now ≡ true }
+    requires near { is_near_util places.now term.now ≡ true }
     ensures { GrowsByUtility places.now sum.old sum.new term.now }
 {
     if let UtilTerm::Lin(term) = term {
@@ -113,7 +122,7 @@ fn add_util(places: &Places<'_>, sum: &mut Sum, term: &UtilTerm)
     }
 }
 
-/// The utility as a sum.
+/// The utility without its step tables, as a sum.
 fn utility_sum(
     alloc: Global,
     places: &Places<'_>,
@@ -122,8 +131,8 @@ fn utility_sum(
 ) -> Result<Sum, AllocError>
     requires dense { symbols ≡ length places.now }
     requires few { length terms.now ≤ most_terms }
-    requires near { list_all is_near_util terms.now ≡ true }
-    ensures { IfOk result (IsUtility places.now terms.now) }
+    requires near { list_all (is_near_util places.now) terms.now ≡ true }
+    ensures { IfOk result (IsLinearPart places.now terms.now) }
 {
     let mut sum = zero_sum(alloc, symbols)?;
     for term in terms {
@@ -133,18 +142,21 @@ fn utility_sum(
 }
 
 /// What a checked program says of its sizes: its symbols in the order of declaration, a row or two for each comparison of
-/// its assume clauses in the order of the text, and its utility. The rows hold at sizes exactly where every comparison is
-/// true, and the utility is worth what the program's is. The one error is want of memory.
+/// its assume clauses in the order of the text, and its utility with the step tables in the order of the text. The rows hold
+/// at sizes exactly where every comparison is true, and the utility is worth what the program's is. The one error is want of
+/// memory.
 pub fn terms(alloc: Global, checked: &Checked) -> Result<Terms, AllocError>
     ensures symbols { IfOk result (λ terms. terms.symbols ≡ symbols_of (seen_decls checked.now)) }
     ensures rows { IfOk result (λ terms. terms.rows ≡ rows_of (seen_decls checked.now)) }
+    ensures tables { IfOk result (λ terms. terms.steps ≡ tables_of (seen_decls checked.now)) }
     ensures assumes { IfOk result (SayAssumes (seen_decls checked.now)) }
     ensures utility { IfOk result (SayUtility (seen_decls checked.now)) }
     ensures short { IfOk result AreShort }
 {
     let decls = program(checked).decls.as_slice();
     let symbols = symbol_names(alloc, decls)?;
-    let (rows, sum) = rows_and_utility(alloc, symbols.as_slice(), decls)?;
+    let (rows, utility) = rows_and_utility(alloc, symbols.as_slice(), decls)?;
+    let Utility { sum, tables } = utility;
     let Sum { by, constant } = sum;
     Ok(Terms {
         symbols,
@@ -152,7 +164,7 @@ pub fn terms(alloc: Global, checked: &Checked) -> Result<Terms, AllocError>
         ones: Items::new(alloc),
         base: constant,
         by: Items::from_vec(by),
-        steps: Items::new(alloc),
+        steps: tables,
     })
 }
 
@@ -167,13 +179,16 @@ fn rows_and_utility(
     alloc: Global,
     symbols: &[Name],
     decls: &[Decl],
-) -> Result<(Items<Linear>, Sum), AllocError>
-    requires { IsSound (seen_decls decls.now) }
+) -> Result<(Items<Linear>, Utility), AllocError>
+    requires sound { IsSound (seen_decls decls.now) }
+    requires given { symbols.now ≡ symbols_of (seen_decls decls.now) }
     ensures rows { IfOk result (λ found. AreAssumeRows symbols.now (seen_decls decls.now) found.0) }
     ensures utility { IfOk result (λ found. IsUtilityOf symbols.now (seen_decls decls.now) found.1) }
 {
     let places = Places::of(alloc, symbols)?;
     let rows = assume_rows(alloc, &places, symbols.len(), decls)?;
-    let sum = utility_sum(alloc, &places, symbols.len(), util_terms_of(decls))?;
-    Ok((rows, sum))
+    let terms = util_terms_of(decls);
+    let sum = utility_sum(alloc, &places, symbols.len(), terms)?;
+    let tables = step_tables(alloc, &places, terms)?;
+    Ok((rows, Utility { sum, tables }))
 }

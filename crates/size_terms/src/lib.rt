@@ -1,10 +1,11 @@
-//! The assume clauses and the utility of a program, as rows and terms with one coefficient a symbol.
+//! The assume clauses and the utility of a program, as rows and terms with one coefficient a symbol, and step tables.
 #![tactic(auto)]
 
 mod building;
 mod comparisons;
 mod places;
 mod sums;
+mod tables;
 mod worth;
 
 pub use building::{rows_say_comparisons, terms};

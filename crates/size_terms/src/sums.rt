@@ -21,7 +21,7 @@ pub struct Sum {
 }
 
 /// A number under two signs.
-fn signed_number(number: u64, first: bool, second: bool) -> i128
+pub fn signed_number(number: u64, first: bool, second: bool) -> i128
     ensures { result ≡ negated_if first (negated_if second (pos number)) }
 {
     if first == second {

@@ -1,6 +1,9 @@
 -- What a declaration breaks, part by part, and the walk over the declarations.
-use Rattle.std.proofs.Common.{◌&&◌, ◌≡◌, ℕ, zero, suc, ◌+◌, ◌<◌, Bool, true, false, List, [], ◌∷◌, ◌++◌, take, drop, length, get_or, Option, Some, None, refl, sym, ap, ◌∙◌, true≢false, arith}
+use Rattle.std.proofs.Common.{◌&&◌, ◌≡◌, ℕ, zero, suc, ◌+◌, ◌<◌, Bool, true, false, List, [], ◌∷◌, ◌++◌, take, drop, length, get_or, Option, Some, None, refl, sym, ap, ◌∙◌, true≢false, arith, append_assoc}
 use Rattle.std.specs.Prelude.{if◌then◌else◌, option_map, slice_get}
+use Rattle.std.proofs.lemmas.List.{append-nil}
+use Rattle.std.proofs.lemmas.List.Folds.{list_all_more}
+use Rattle.std.proofs.lemmas.Option.{get_or_from_slice_get, slice_get_within}
 use Rattle.elastic_ast.specs.declared.declarations.Decl.{Decl}
 use Rattle.elastic_ast.specs.declared.rule.Rule.{Rule}
 use Rattle.elastic_ast.specs.declared.rule.Rule.TheVariants.{Twice}
@@ -12,7 +15,7 @@ use Rattle.elastic_ast.specs.Typing.AskedOfNames.{asks_names, top_name, top_name
 use Rattle.elastic_ast.specs.Typing.Asked.{asks_decl, asked, is_first}
 use Rattle.elastic_ast.specs.Typing.Typed.{broken_rule, first_of}
 use Rattle.elastic_ast.proofs.Typing.First.{first-append}
-use Rattle.elastic_ast.proofs.Typing.TypedLaws.{is_no_part}
+use Rattle.elastic_ast.proofs.Typing.TypedLaws.{is_no_part, none_both}
 use Rattle.std.specs.List.{list_all}
 use Rattle.width_check.specs.Supported.{is_supported}
 use Rattle.width_check.specs.Scoped.{before_of, next_names, name_broken}
@@ -74,6 +77,24 @@ pub walk_stops : (f : List PlainDecl → PlainDecl → Option Rule) (ds : List D
     → first_of f i (seen_decls (take i ds)) (seen_decls (drop i ds)) ≡ whole → whole ≡ Some (rule, i)
 walk_stops f ds i d rule whole h e broken inv =
     sym (step_of f ds i d whole h e inv) ∙ ap (λ z. or_else (option_map (λ r. let p : Rule × ℕ = (r, i) in p) z) (first_of f (i + 1) (seen_decls (take (i + 1) ds)) (seen_decls (drop (i + 1) ds)))) broken
+
+first_of_more : (f : List PlainDecl → PlainDecl → Option Rule) (k : ℕ) (before xs : List PlainDecl) (x : PlainDecl) → first_of f k before xs ≡ None → f (before ++ xs) x ≡ None → first_of f k before (xs ++ x ∷ []) ≡ None
+first_of_more f k before [] x h e = ap (λ z. or_else (option_map (λ r. let p : Rule × ℕ = (r, k) in p) z) None) (ap (λ z. f z x) (sym (append-nil before)) ∙ e)
+first_of_more f k before (y ∷ ys) x h e =
+    let both = none_both (option_map (λ r. let p : Rule × ℕ = (r, k) in p) (f before y)) (first_of f (k + 1) (before ++ y ∷ []) ys) h in
+    ap (λ z. or_else z (first_of f (k + 1) (before ++ y ∷ []) (ys ++ x ∷ []))) both.0 ∙ first_of_more f (k + 1) (before ++ y ∷ []) ys x both.1 (ap (λ z. f z x) (append_assoc before (y ∷ []) ys) ∙ e)
+
+-- the front of declarations that ask nothing that isn't met grows by one
+pub front_fine : (f : List PlainDecl → PlainDecl → Option Rule) (ds : List Decl) (i : ℕ) (d : Decl) → i < length ds → d ≡ get_or ds i d → f (seen_decls (take i ds)) (seen_decl d) ≡ None → first_of f 0 [] (seen_decls (take i ds)) ≡ None
+    → first_of f 0 [] (seen_decls (take (i + 1) ds)) ≡ None
+front_fine f ds i d h e fine front = ap (first_of f 0 []) (step_take ds i d h e) ∙ first_of_more f 0 [] (seen_decls (take i ds)) (seen_decl d) front fine
+
+-- the front of supported declarations grows by one
+pub front_supported : (ds : List Decl) (i : ℕ) (d : Decl) → i < length ds → d ≡ get_or ds i d → is_supported (seen_decl d) ≡ true → list_all is_supported (take i (seen_decls ds)) ≡ true → list_all is_supported (take (i + 1) (seen_decls ds)) ≡ true
+front_supported ds i d h e supported front =
+    let there = seen_at ds i d h e in
+    list_all_more is_supported (seen_decls ds) i (seen_decl d) (slice_get_within (seen_decls ds) i (seen_decl d) there)
+    ∙ ap (λ b. b && is_supported (get_or (seen_decls ds) i (seen_decl d))) front ∙ ap is_supported (get_or_from_slice_get (seen_decls ds) i (seen_decl d) (seen_decl d) there) ∙ supported
 
 -- what is typed is typed where reserved names are allowed too
 allowed : (q : Demand) → met false q ≡ true → met true q ≡ true

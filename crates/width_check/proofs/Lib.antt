@@ -1,5 +1,9 @@
 pub mod Underscores
+pub mod Rising
 pub mod Tables
 pub mod ScopeLaws
 pub mod Steps
 pub mod CheckLaws
+pub mod SortLaws
+pub mod PowerLaws
+pub mod StatementLaws

@@ -1,7 +1,7 @@
 -- The table of a scope has the names of its declarations, each once, so a look-up finds the one declaration of a name.
 use Rattle.std.proofs.lemmas.Bool.{and_from, and_parts, not-true, or_left, or_from, or_right, or_parts}
 use Rattle.std.proofs.lemmas.List.{append-nil, drop_more}
-use Rattle.std.proofs.Common.{◌≡◌, ℕ, zero, suc, ◌+◌, ◌<◌, Bool, true, false, not, cond, ◌||◌, List, [], ◌∷◌, ◌++◌, map, take, drop, length, get_or, Option, Some, None, refl, sym, ap, subst, ◌∙◌, true≢false, arith, add-one, append_assoc, is_some}
+use Rattle.std.proofs.Common.{◌≡◌, ℕ, zero, suc, ◌+◌, ◌<◌, Bool, true, false, not, cond, ◌||◌, List, [], ◌∷◌, ◌++◌, map, take, drop, length, get_or, Option, Some, None, IfSome, refl, sym, ap, subst, ◌∙◌, true≢false, arith, add-one, append_assoc, is_some}
 use Rattle.std.specs.Prelude.{if◌then◌else◌, nat_eq, option_map, option_and_then}
 use Rattle.std.specs.Map.{lookup}
 use Rattle.std.specs.Cmp.Lexicographic.{pointwise, same_text}
@@ -9,17 +9,21 @@ use Rattle.std.proofs.lemmas.List.Folds.{list_any-append}
 use Rattle.std.proofs.lemmas.Grind.{flat_map-append}
 use denote.Bor.{Bor}
 use Rattle.elastic_ast.specs.declared.declarations.Decl.{Decl}
+use Rattle.elastic_ast.specs.declared.declarations.Decl.TheVariants as decl
+use Rattle.elastic_ast.specs.declared.declarations.Field.{Field}
+use Rattle.std.specs.Option.{option_copied}
 use Rattle.elastic_ast.specs.declared.rule.Rule.{Rule}
 use Rattle.elastic_ast.specs.Tree.{Name, PlainDecl}
 use Rattle.elastic_ast.specs.Seen.{seen_decl, seen_decls}
-use Rattle.elastic_ast.specs.Typing.Scope.{same, among, or_else, found, symbol_of, is_symbol}
+use Rattle.elastic_ast.specs.Typing.Scope.{same, among, or_else, found, symbol_of}
+use Rattle.elastic_ast.specs.Typing.LookUps.{constant_in, header_type_in, meta_in, register_in, register_size_in}
 use Rattle.elastic_ast.specs.Typing.Demand.{Fresh, Plain, met, rule_of, first_broken, fixed_names}
 use Rattle.elastic_ast.specs.Typing.AskedOfNames.{asks_names, top_name, top_names}
-use Rattle.elastic_ast.specs.Typing.Asked.{DeclKind, is_of_kind, has}
+use Rattle.elastic_ast.specs.Typing.Asked.{DeclKind, is_of_kind, has, is_first}
 use Rattle.elastic_ast.proofs.Typing.TypedLaws.{if_none}
 use Rattle.width_check.specs.Table.{names_in, IsRefusal}
 use Rattle.width_check.specs.declared.table.Refusal.{Refusal}
-use Rattle.width_check.specs.Scoped.{entries_seen, with_decl, names_with, named_decls, are_new, are_distinct, before_of, next_names, name_broken}
+use Rattle.width_check.specs.Scoped.{entries_seen, with_decl, names_with, named_decls, are_new, are_distinct, before_of, next_names, name_broken, StandsUnder}
 
 -- one step through the declarations
 pub drop_suc : {A : Type 0} (xs : List A) (i : ℕ) (x : A) → i < length xs → x ≡ get_or xs i x → drop i xs ≡ x ∷ drop (i + 1) xs
@@ -106,6 +110,15 @@ new_after : (before xs ys : List Name) → are_new before (xs ++ ys) ≡ true �
 new_after before [] ys p = ap (λ z. are_new z ys) (append-nil before) ∙ p
 new_after before (x ∷ xs) ys p = ap (λ z. are_new z ys) (sym (append_assoc before (x ∷ []) xs)) ∙ new_after (before ++ x ∷ []) xs ys ((and_parts (not (among before x)) (are_new (before ++ x ∷ []) (xs ++ ys)) p).1)
 
+-- a name is looked up among the names of one declaration, and then among the rest
+lookup_names : (n : Name) (d : PlainDecl) (ns : List Name) (rest : List (Name × PlainDecl)) → lookup (same n) (map (with_decl d) ns ++ rest) ≡ cond (among ns n) (Some d) (lookup (same n) rest)
+lookup_names n d [] rest = refl
+lookup_names n d (m ∷ ms) rest = by (same n m) (lookup_names n d ms rest)
+  where
+    by : (b : Bool) → lookup (same n) (map (with_decl d) ms ++ rest) ≡ cond (among ms n) (Some d) (lookup (same n) rest) → cond b (Some d) (lookup (same n) (map (with_decl d) ms ++ rest)) ≡ cond (b || among ms n) (Some d) (lookup (same n) rest)
+    by true ih = refl
+    by false ih = ih
+
 -- a declaration that doesn't declare the name gives nothing for it
 module _ {B : Type 0} (n : Name) (pick : PlainDecl → Option B) (quiet : (x : PlainDecl) → among (top_name x) n ≡ false → pick x ≡ None) where
   nothing_left : (ds : List PlainDecl) → among (top_names ds) n ≡ false → found pick ds ≡ None
@@ -119,14 +132,6 @@ module _ {B : Type 0} (n : Name) (pick : PlainDecl → Option B) (quiet : (x : P
       by true e ih = absurd (true≢false (sym (or_left (among (top_name d) n) (among (top_names ds) n) e) ∙ split))
       by false e ih = ap (λ z. or_else z (found pick ds)) (quiet d e) ∙ ih ((or_parts (among (top_name d) n) (among (top_names ds) n) split).1)
 
-  lookup_names : (d : PlainDecl) (ns : List Name) (rest : List (Name × PlainDecl)) → lookup (same n) (map (with_decl d) ns ++ rest) ≡ cond (among ns n) (Some d) (lookup (same n) rest)
-  lookup_names d [] rest = refl
-  lookup_names d (m ∷ ms) rest = by (same n m) (lookup_names d ms rest)
-    where
-      by : (b : Bool) → lookup (same n) (map (with_decl d) ms ++ rest) ≡ cond (among ms n) (Some d) (lookup (same n) rest) → cond b (Some d) (lookup (same n) (map (with_decl d) ms ++ rest)) ≡ cond (b || among ms n) (Some d) (lookup (same n) rest)
-      by true ih = refl
-      by false ih = ih
-
   found_named : (before : List Name) (ds : List PlainDecl) → are_new before (top_names ds) ≡ true → found pick ds ≡ option_and_then pick (lookup (same n) (named_decls ds))
   found_named before [] p = refl
   found_named before (d ∷ ds) p = by (among (top_name d) n) refl (found_named (before ++ top_name d) ds (new_after before (top_name d) (top_names ds) p))
@@ -135,14 +140,30 @@ module _ {B : Type 0} (n : Name) (pick : PlainDecl → Option B) (quiet : (x : P
       by true e ih =
           ap (λ z. or_else (pick d) z)
           (nothing_left ds (not_among n (before ++ top_name d) (top_names ds) (new_after before (top_name d) (top_names ds) p) (among-append n before (top_name d) ∙ or_right (among before n) (among (top_name d) n) e)))
-          ∙ or_none (pick d) ∙ sym (ap (option_and_then pick) (lookup_names d (top_name d) (named_decls ds) ∙ ap (λ b. cond b (Some d) (lookup (same n) (named_decls ds))) e))
+          ∙ or_none (pick d) ∙ sym (ap (option_and_then pick) (lookup_names n d (top_name d) (named_decls ds) ∙ ap (λ b. cond b (Some d) (lookup (same n) (named_decls ds))) e))
       by false e ih =
           ap (λ z. or_else z (found pick ds)) (quiet d e) ∙ ih
-          ∙ sym (ap (option_and_then pick) (lookup_names d (top_name d) (named_decls ds) ∙ ap (λ b. cond b (Some d) (lookup (same n) (named_decls ds))) e))
+          ∙ sym (ap (option_and_then pick) (lookup_names n d (top_name d) (named_decls ds) ∙ ap (λ b. cond b (Some d) (lookup (same n) (named_decls ds))) e))
 
 quiet_symbol : (n : Name) (x : PlainDecl) → among (top_name x) n ≡ false → symbol_of n x ≡ None
 quiet_symbol n (PlainDecl.Symbol m) h = ap (λ b. if b then Some m else None) ((or_parts (same n m) false h).0)
 quiet_symbol n _ h = refl
+
+quiet_constant : (n : Name) (x : PlainDecl) → among (top_name x) n ≡ false → constant_in n x ≡ None
+quiet_constant n (PlainDecl.Const m width value) h = ap (λ b. if b then Some (width, value) else None) ((or_parts (same n m) false h).0)
+quiet_constant n _ h = refl
+
+quiet_header : (n : Name) (x : PlainDecl) → among (top_name x) n ≡ false → header_type_in n x ≡ None
+quiet_header n (PlainDecl.Header m fields) h = ap (λ b. if b then Some fields else None) ((or_parts (same n m) false h).0)
+quiet_header n _ h = refl
+
+quiet_register : (n : Name) (x : PlainDecl) → among (top_name x) n ≡ false → register_in n x ≡ None
+quiet_register n (PlainDecl.Register m width cells size) h = ap (λ b. if b then Some width else None) ((or_parts (same n m) false h).0)
+quiet_register n _ h = refl
+
+quiet_size : (n : Name) (x : PlainDecl) → among (top_name x) n ≡ false → register_size_in n x ≡ None
+quiet_size n (PlainDecl.Register m width cells size) h = ap (λ b. if b then Some size else None) ((or_parts (same n m) false h).0)
+quiet_size n _ h = refl
 
 seen_lookup : (n : Name) (es : List (Bor (List ℕ) × Bor Decl)) → option_map (λ d. seen_decl d.now) (lookup (λ k. pointwise nat_eq n k.now) es) ≡ lookup (same n) (entries_seen es)
 seen_lookup n [] = refl
@@ -153,14 +174,51 @@ seen_lookup n (e ∷ es) = by (same n e.0.now) (seen_lookup n es)
     by true h = refl
     by false h = h
 
--- a symbol of the scope is what stands under its name in the table
-pub symbol_found : (n m : Name) (es : List (Bor (List ℕ) × Bor Decl)) (inside place : List Decl × ℕ) (o : Option (Bor Decl)) → m ≡ n → o ≡ lookup (λ k. pointwise nat_eq m k.now) es
+-- what stands under a name has that name
+named_under : (n : Name) (ds : List PlainDecl) → IfSome (lookup (same n) (named_decls ds)) (λ d. among (top_name d) n ≡ true)
+named_under n [] = tt
+named_under n (d ∷ ds) = by (among (top_name d) n) refl (named_under n ds)
+  where
+    by : (b : Bool) → among (top_name d) n ≡ b → IfSome (lookup (same n) (named_decls ds)) (λ x. among (top_name x) n ≡ true) → IfSome (lookup (same n) (named_decls (d ∷ ds))) (λ x. among (top_name x) n ≡ true)
+    by b e h = subst (λ (z : Option PlainDecl). IfSome z (λ x. among (top_name x) n ≡ true)) (sym (lookup_names n d (top_name d) (named_decls ds) ∙ ap (λ z. cond z (Some d) (lookup (same n) (named_decls ds))) e)) (on b e h)
+      where
+        on : (b : Bool) → among (top_name d) n ≡ b → IfSome (lookup (same n) (named_decls ds)) (λ x. among (top_name x) n ≡ true) → IfSome (cond b (Some d) (lookup (same n) (named_decls ds))) (λ x. among (top_name x) n ≡ true)
+        on true e h = e
+        on false e h = h
+
+-- a name is declared where something stands under it
+declared_under : (n : Name) (ds : List PlainDecl) → is_some (lookup (same n) (named_decls ds)) ≡ among (top_names ds) n
+declared_under n [] = refl
+declared_under n (d ∷ ds) =
+    ap is_some (lookup_names n d (top_name d) (named_decls ds)) ∙ on (among (top_name d) n) (declared_under n ds) ∙ sym (among-append n (top_name d) (top_names ds))
+  where
+    on : (b : Bool) → is_some (lookup (same n) (named_decls ds)) ≡ among (top_names ds) n → is_some (cond b (Some d) (lookup (same n) (named_decls ds))) ≡ (b || among (top_names ds) n)
+    on true h = refl
+    on false h = h
+
+-- what stands under a name in the table of a scope
+pub stands_under : (n m : Name) (es : List (Bor (List ℕ) × Bor Decl)) (inside place : List Decl × ℕ) (o : Option (Bor Decl)) → m ≡ n → o ≡ lookup (λ k. pointwise nat_eq m k.now) es
     → entries_seen es ≡ named_decls (before_of inside) → are_distinct (top_names (before_of inside)) ≡ true → inside ≡ place
-    → is_some (option_and_then (symbol_of n) (option_map (λ d. seen_decl d.now) o)) ≡ is_symbol (before_of place) n
-symbol_found n m es inside place o a b h p e =
-    ap (λ z. is_some (option_and_then (symbol_of n) (option_map (λ d. seen_decl d.now) z))) (b ∙ ap (λ t. lookup (λ k. pointwise nat_eq t k.now) es) a)
-    ∙ ap (λ z. is_some (option_and_then (symbol_of n) z)) (seen_lookup n es ∙ ap (lookup (same n)) h) ∙ ap is_some (sym (found_named n (symbol_of n) (quiet_symbol n) [] (before_of inside) p))
-    ∙ ap (λ z. is_symbol (before_of z) n) e
+    → StandsUnder n (before_of place) (option_map seen_decl (option_copied o))
+stands_under n m es inside place o a b h p e = record {
+  named = subst (λ (z : Option PlainDecl). IfSome z (λ d. among (top_name d) n ≡ true)) (sym here) (named_under n (before_of inside));
+  declared = ap is_some here ∙ declared_under n (before_of inside) ∙ ap (λ z. among (top_names (before_of z)) n) e;
+  symbol = by (symbol_of n) (quiet_symbol n);
+  constant = by (constant_in n) (quiet_constant n);
+  header = by (header_type_in n) (quiet_header n);
+  register = by (register_in n) (quiet_register n);
+  size = by (register_size_in n) (quiet_size n);
+}
+  where
+    copied : (o : Option (Bor Decl)) → option_map seen_decl (option_copied o) ≡ option_map (λ d. seen_decl d.now) o
+    copied None = refl
+    copied (Some x) = refl
+
+    here : option_map seen_decl (option_copied o) ≡ lookup (same n) (named_decls (before_of inside))
+    here = copied o ∙ ap (option_map (λ d. seen_decl d.now)) (b ∙ ap (λ t. lookup (λ k. pointwise nat_eq t k.now) es) a) ∙ seen_lookup n es ∙ ap (lookup (same n)) h
+
+    by : {B : Type 0} (pick : PlainDecl → Option B) → ((x : PlainDecl) → among (top_name x) n ≡ false → pick x ≡ None) → found pick (before_of place) ≡ option_and_then pick (option_map seen_decl (option_copied o))
+    by pick quiet = ap (λ z. found pick (before_of z)) (sym e) ∙ found_named n pick quiet [] (before_of inside) p ∙ ap (option_and_then pick) (sym here)
 
 -- the rule that the next name breaks, by the table
 pub next_broken : (allow : Bool) (inside place : List Decl × ℕ) (d : Decl) (es : List (Bor (List ℕ) × Bor Decl)) → entries_seen es ≡ named_decls (before_of inside) → inside.1 < length inside.0 → d ≡ get_or inside.0 inside.1 d → inside ≡ place
@@ -179,3 +237,34 @@ has_step kind ds x after known a h = ap (λ z. z || is_of_kind kind x) h ∙ sym
     or_nothing : (b : Bool) → (b || false) ≡ b
     or_nothing true = refl
     or_nothing false = refl
+
+or_assoc : {B : Type 0} (a b c : Option B) → or_else a (or_else b c) ≡ or_else (or_else a b) c
+or_assoc (Some a) b c = refl
+or_assoc None b c = refl
+
+-- one more declaration that may give something
+pub found_step : {B : Type 0} (pick : PlainDecl → Option B) (ds : List PlainDecl) (x : PlainDecl) (after : List PlainDecl) (known : Option B) → after ≡ ds ++ x ∷ [] → known ≡ found pick ds → or_else known (pick x) ≡ found pick after
+found_step pick ds x after known a h = ap (λ z. or_else z (pick x)) h ∙ sym (found_last ds) ∙ ap (found pick) (sym a)
+  where
+    found_last : (ds : List PlainDecl) → found pick (ds ++ x ∷ []) ≡ or_else (found pick ds) (pick x)
+    found_last [] = or_none (pick x)
+    found_last (d ∷ ds) = ap (or_else (pick d)) (found_last ds) ∙ or_assoc (pick d) (found pick ds) (pick x)
+
+-- the metadata are the first where their fields aren't found
+pub first_metadata : (inside place : List Decl × ℕ) (metadata : Option (Bor (List Field))) (d : Decl) (fields : List Field) (first : Bool) → is_some metadata ≡ not first → option_copied metadata ≡ found meta_in (before_of inside) → inside ≡ place → d ≡ decl.Meta fields
+    → first ≡ is_first (before_of place) (seen_decl d)
+first_metadata inside place metadata d fields first t h e k =
+    turned first (is_some metadata) t ∙ ap not (copied metadata ∙ ap is_some h ∙ found_has (before_of inside)) ∙ ap (λ z. not (has DeclKind.Metadata (before_of z))) e ∙ ap (λ z. is_first (before_of place) (seen_decl z)) (sym k)
+  where
+    turned : (a b : Bool) → b ≡ not a → a ≡ not b
+    turned true b e = ap not (sym e)
+    turned false b e = ap not (sym e)
+
+    copied : (o : Option (Bor (List Field))) → is_some o ≡ is_some (option_copied o)
+    copied None = refl
+    copied (Some x) = refl
+
+    found_has : (ds : List PlainDecl) → is_some (found meta_in ds) ≡ has DeclKind.Metadata ds
+    found_has [] = refl
+    found_has (PlainDecl.Meta fields ∷ ds) = refl
+    found_has (_ ∷ ds) = found_has ds

@@ -1,8 +1,6 @@
 -- One step through a list whose elements each ask something.
-use Rattle.std.proofs.lemmas.Bool.{and_parts}
-use Rattle.std.proofs.Common.{◌≡◌, ℕ, zero, suc, ◌+◌, ◌<◌, Bool, true, List, [], ◌∷◌, drop, length, get_or, Option, Some, None, sym, ap, ◌∙◌, arith, add-one}
-use Rattle.std.specs.List.{list_all}
-use Rattle.std.specs.Prelude.{flat_map, Result, Ok, Err, OnOk, IfErr}
+use Rattle.std.proofs.Common.{◌≡◌, ℕ, zero, suc, ◌+◌, ◌<◌, Bool, List, [], ◌∷◌, drop, length, get_or, Option, Some, None, sym, ap, ◌∙◌, arith, add-one}
+use Rattle.std.specs.Prelude.{flat_map, map, Result, Ok, Err, OnOk, IfErr}
 use Rattle.elastic_ast.specs.declared.rule.Rule.{Rule}
 use Rattle.elastic_ast.specs.Typing.Scope.{or_else}
 use Rattle.elastic_ast.specs.Typing.Demand.{Demand, first_broken}
@@ -23,14 +21,35 @@ items_step : {X : Type 0} (allow : Bool) (f : X → List Demand) (xs : List X) (
     → first_broken allow (flat_map f (drop i xs)) ≡ or_else (first_broken allow (f x)) (first_broken allow (flat_map f (drop (i + 1) xs)))
 items_step allow f xs i x h e = ap (λ z. first_broken allow (flat_map f z)) (items_drop xs i x h e) ∙ first-append allow (f x) (flat_map f (drop (i + 1) xs))
 
+-- what is broken from a place on is what the thing there breaks, or else what is broken behind it
+pub stops_here : (rule : Rule) (own rest from whole : Option Rule) → from ≡ or_else own rest → Some rule ≡ own → from ≡ whole → Some rule ≡ whole
+stops_here rule own rest from whole step broken inv = ap (λ z. or_else z rest) broken ∙ sym step ∙ inv
+
+pub goes_past : (own rest from whole : Option Rule) → from ≡ or_else own rest → None ≡ own → from ≡ whole → rest ≡ whole
+goes_past own rest from whole step fine inv = ap (λ z. or_else z rest) fine ∙ sym step ∙ inv
+
 -- the rule that one element breaks first is the one that the list breaks first
 pub stops : {X : Type 0} (allow : Bool) (f : X → List Demand) (xs : List X) (i : ℕ) (x : X) (rule : Rule) (whole : Option Rule) → i < length xs → x ≡ get_or xs i x → Some rule ≡ first_broken allow (f x)
     → first_broken allow (flat_map f (drop i xs)) ≡ whole → Some rule ≡ whole
-stops allow f xs i x rule whole h e a inv = ap (λ z. or_else z (first_broken allow (flat_map f (drop (i + 1) xs)))) a ∙ sym (items_step allow f xs i x h e) ∙ inv
+stops allow f xs i x rule whole h e = stops_here rule _ _ _ whole (items_step allow f xs i x h e)
 
 pub goes_on : {X : Type 0} (allow : Bool) (f : X → List Demand) (xs : List X) (i : ℕ) (x : X) (whole : Option Rule) → i < length xs → x ≡ get_or xs i x → None ≡ first_broken allow (f x)
     → first_broken allow (flat_map f (drop i xs)) ≡ whole → first_broken allow (flat_map f (drop (i + 1) xs)) ≡ whole
-goes_on allow f xs i x whole h e a inv = ap (λ z. or_else z (first_broken allow (flat_map f (drop (i + 1) xs)))) a ∙ sym (items_step allow f xs i x h e) ∙ inv
+goes_on allow f xs i x whole h e = goes_past _ _ _ whole (items_step allow f xs i x h e)
+
+-- the same of elements that are seen as others
+module _ {X Y : Type 0} (allow : Bool) (seen : X → Y) (f : Y → List Demand) (xs : List X) (i : ℕ) (x : X) where
+  seen_step : i < length xs → x ≡ get_or xs i x
+      → first_broken allow (flat_map f (map seen (drop i xs))) ≡ or_else (first_broken allow (f (seen x))) (first_broken allow (flat_map f (map seen (drop (i + 1) xs))))
+  seen_step h e = ap (λ z. first_broken allow (flat_map f (map seen z))) (items_drop xs i x h e) ∙ first-append allow (f (seen x)) (flat_map f (map seen (drop (i + 1) xs)))
+
+  pub seen_stops : (rule : Rule) (whole : Option Rule) → i < length xs → x ≡ get_or xs i x → Some rule ≡ first_broken allow (f (seen x))
+      → first_broken allow (flat_map f (map seen (drop i xs))) ≡ whole → Some rule ≡ whole
+  seen_stops rule whole h e = stops_here rule _ _ _ whole (seen_step h e)
+
+  pub seen_goes_on : (whole : Option Rule) → i < length xs → x ≡ get_or xs i x → None ≡ first_broken allow (f (seen x))
+      → first_broken allow (flat_map f (map seen (drop i xs))) ≡ whole → first_broken allow (flat_map f (map seen (drop (i + 1) xs))) ≡ whole
+  seen_goes_on whole h e = goes_past _ _ _ whole (seen_step h e)
 
 -- two parts, one after the other
 pub fine_both : {T : Type 0} (r : Result T Refusal) (a b whole : Option Rule) → OnOk r (b ≡ None) → a ≡ None → whole ≡ or_else a b → OnOk r (whole ≡ None)
@@ -48,14 +67,3 @@ refused_second (Err w) a b whole p q e = refusal_along w b whole p (sym (e ∙ a
 pub refused_first : (r : Refusal) (a b whole : Option Rule) → IsRefusal r a → whole ≡ or_else a b → IsRefusal r whole
 refused_first refusal.Memory a b whole p e = tt
 refused_first (refusal.Broken rule) a b whole p e = e ∙ ap (λ z. or_else z b) p
-
--- what holds of each item from a place on holds of that at the place, and of those behind it
-module _ {X : Type 0} (f : X → Bool) where
-  at_head : (ys zs : List X) (x : X) → ys ≡ x ∷ zs → list_all f ys ≡ true → (f x ≡ true) × (list_all f zs ≡ true)
-  at_head ys zs x e h = and_parts (f x) (list_all f zs) (sym (ap (list_all f) e) ∙ h)
-
-  pub item_all : (xs : List X) (i : ℕ) (x : X) → i < length xs → x ≡ get_or xs i x → list_all f (drop i xs) ≡ true → f x ≡ true
-  item_all xs i x h e k = (at_head (drop i xs) (drop (i + 1) xs) x (items_drop xs i x h e) k).0
-
-  pub rest_all : (xs : List X) (i : ℕ) (x : X) → i < length xs → x ≡ get_or xs i x → list_all f (drop i xs) ≡ true → list_all f (drop (i + 1) xs) ≡ true
-  rest_all xs i x h e k = (at_head (drop i xs) (drop (i + 1) xs) x (items_drop xs i x h e) k).1

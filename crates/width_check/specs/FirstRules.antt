@@ -1,15 +1,16 @@
 -- The rule that is broken first by what stands at one place of a program, and what a refusal says of it; this project's own.
-use Rattle.std.specs.Prelude.{◌≡◌, ℕ, Bool, List, [], ◌∷◌, ◌++◌, map, flat_map, Option, None, Result, IfErr, OnOk}
+use Rattle.std.specs.Prelude.{◌≡◌, ℕ, Bool, false, List, [], ◌∷◌, ◌++◌, map, flat_map, Option, None, Result, IfErr, OnOk}
 use denote.Bor.{Bor}
 use Rattle.elastic_ast.specs.declared.declarations.Decl.{Decl}
 use Rattle.elastic_ast.specs.declared.declarations.Field.{Field}
+use Rattle.elastic_ast.specs.declared.declarations.UtilTerm.TheVariants as util
 use Rattle.elastic_ast.specs.declared.rule.Rule.{Rule}
 use Rattle.elastic_ast.specs.Tree.{Name}
 use Rattle.elastic_ast.specs.Seen.{seen_decl, seen_decls}
 use Rattle.elastic_ast.specs.Typing.Typed.{broken_rule, first_of}
 use Rattle.elastic_ast.specs.Typing.Demand.{Demand, first_broken}
 use Rattle.elastic_ast.specs.Typing.AskedOfNames.{asks_names, asks_symbol, top_name}
-use Rattle.elastic_ast.specs.Typing.Asked.{asks_decl, asks_fields, field_name}
+use Rattle.elastic_ast.specs.Typing.Asked.{asks_decl, asks_fields, asks_util, field_name}
 use Rattle.width_check.specs.declared.table.Refusal.{Refusal}
 use Rattle.width_check.specs.Table.{IsRefusal, names_in}
 use Rattle.width_check.specs.Scoped.{before_of, entries_seen, names_with}
@@ -45,6 +46,10 @@ field_names_break allow fields = first_broken allow (asks_names [] (map field_na
 -- of a size, of the fields of the metadata, of what stands in a declaration, and of a whole declaration, behind the first of some
 abbrev pub symbol_breaks : Bool → List Decl × ℕ → Option Name → Option Rule
 symbol_breaks allow place symbol = first_broken allow (asks_symbol (before_of place) symbol)
+
+-- of a step table, whatever its sign
+abbrev pub steps_break : Bool → List Decl × ℕ → Name → List (ℕ × ℕ) → Option Rule
+steps_break allow place symbol pairs = first_broken allow (asks_util (before_of place) (util.Steps false symbol pairs))
 
 abbrev pub fields_break : Bool → List Decl × ℕ → List Field → Option Rule
 fields_break allow place fields = first_broken allow (asks_fields (before_of place) fields)

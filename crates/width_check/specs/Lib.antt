@@ -4,3 +4,7 @@ pub mod Supported
 pub mod Broken
 pub mod Sound
 pub mod FirstRules
+pub mod Placed
+pub mod PlaceRules
+pub mod PartRules
+pub mod SetRules

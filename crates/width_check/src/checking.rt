@@ -5,14 +5,14 @@ ghost use Rattle.std.specs.List.{list_all};
 ghost use Rattle.elastic_ast.specs.Seen.{seen_decl, seen_decls, seen_program};
 ghost use Rattle.elastic_ast.specs.Typing.Typed.{Typed};
 ghost use Rattle.width_check.specs.FirstRules.{RefusedBy, PassesOn, next_breaks, list_breaks};
-ghost use Rattle.width_check.specs.Sound.{IsSound};
-ghost use Rattle.width_check.specs.Broken.{IsBroken, IsFirst, most_declarations};
-ghost use Rattle.width_check.specs.Supported.{is_supported as is_supported_of, is_linear as is_linear_of};
+ghost use Rattle.width_check.specs.Sound.{IsSound, most_declarations};
+ghost use Rattle.width_check.specs.Broken.{IsBroken};
+ghost use Rattle.width_check.specs.Supported.{is_supported as is_supported_of};
 
 use crate::declarations::check_declaration;
 use crate::scope::Scope;
 use crate::table::Refusal;
-use elastic_ast::{Decl, Program, Rule, UtilTerm};
+use elastic_ast::{Decl, Program, Rule};
 use std::alloc::Global;
 use std::marker::Model;
 use thiserror::Error;
@@ -61,27 +61,14 @@ impl Model for Checked {
     ghost invariant = { λ checked. IsSound (seen_decls checked.program.decls) };
 }
 
-fn is_linear(term: &UtilTerm) -> bool
-    ensures { result ≡ is_linear_of term.now }
-{
-    matches!(term, UtilTerm::Lin(_))
-}
-
-fn all_linear(terms: &[UtilTerm]) -> bool
-    ensures { result ≡ list_all is_linear_of terms.now }
-{
-    terms.iter().all(|term| is_linear(term))
-}
-
 /// Whether the checker takes declarations of this form.
 fn is_supported(decl: &Decl) -> bool
     ensures { result ≡ is_supported_of (seen_decl decl.now) }
 {
-    match decl {
-        Decl::Symbol(_) | Decl::Assume(_) | Decl::Meta(_) => true,
-        Decl::Maximize(terms) => all_linear(terms.as_slice()),
-        _ => false,
-    }
+    matches!(
+        decl,
+        Decl::Symbol(_) | Decl::Assume(_) | Decl::Maximize(_) | Decl::Meta(_)
+    )
 }
 
 /// The first rule that the next declaration breaks. Where it breaks none, the scope goes on behind it.
@@ -114,7 +101,7 @@ fn walk(alloc: Global, allow_reserved: bool, decls: &[Decl]) -> Result<(), Check
     requires { length decls.now ≤ most_declarations }
     ensures fine { OnOk result (list_breaks allow_reserved decls.now ≡ None) }
     ensures supported { OnOk result (list_all is_supported_of (seen_decls decls.now) ≡ true) }
-    ensures refused { IfErr result (IsFirst allow_reserved (seen_decls decls.now)) }
+    ensures refused { IfErr result (IsBroken allow_reserved (seen_decls decls.now)) }
 {
     let mut scope = Scope::new(alloc, decls);
     for (i, decl) in decls.iter().enumerate() {
@@ -137,8 +124,8 @@ fn walk(alloc: Global, allow_reserved: bool, decls: &[Decl]) -> Result<(), Check
 
 /// Takes a program that breaks no rule of types. `allow_reserved` allows names with two underscores in a row.
 ///
-/// `Broken` names the first declaration that breaks a rule, and the first rule that it breaks. The program is given up at a
-/// refusal. The rules are this project's own.
+/// `Broken` names the first declaration that breaks a rule, and the first rule that it breaks; `NotYet` comes where a
+/// declaration of another form stands before it. The program is given up at a refusal. The rules are this project's own.
 pub fn check(alloc: Global, program: Program, allow_reserved: bool) -> Result<Checked, CheckError>
     requires { length program.decls ≤ most_declarations }
     ensures same { IfOk result (λ checked. checked ≡ program.decls) }

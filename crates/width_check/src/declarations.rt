@@ -1,14 +1,13 @@
 //! What each declaration asks, over the scope before it.
 
-ghost use Rattle.std.specs.Prelude.{◌≡◌, true, OnOk, None};
+ghost use Rattle.std.specs.Prelude.{◌≡◌, true, OnOk, None, map};
 ghost use Rattle.elastic_ast.specs.Seen.{seen_decl};
 ghost use Rattle.elastic_ast.specs.Typing.Scope.{or_else};
-ghost use Rattle.elastic_ast.specs.Typing.Demand.{first_broken};
-ghost use Rattle.elastic_ast.specs.Typing.Asked.{asks_term, asks_comp, asks_util, asks_field};
-ghost use Rattle.width_check.specs.FirstRules.{RefusedBy, each_breaks, field_names_break, fields_break, inside_breaks, PassesOn, symbol_breaks};
+ghost use Rattle.elastic_ast.specs.Typing.Demand.{first_broken, from_zero, rises};
+ghost use Rattle.elastic_ast.specs.Typing.Asked.{asks_term, asks_comp, asks_pair, pair_key, asks_util, asks_field};
+ghost use Rattle.width_check.specs.FirstRules.{RefusedBy, each_breaks, field_names_break, fields_break, inside_breaks, PassesOn, symbol_breaks, steps_break};
 ghost use Rattle.width_check.specs.Scoped.{before_of};
-ghost use Rattle.width_check.specs.Supported.{is_supported, is_linear};
-ghost use Rattle.std.specs.List.{list_all};
+ghost use Rattle.width_check.specs.Supported.{is_supported};
 
 use crate::scope::Scope;
 use crate::table::{Refusal, put};
@@ -20,11 +19,11 @@ use std::alloc::Global;
 /// The greatest number in `assume` and `maximize`.
 const MOST_NUMBER: u64 = 1_000_000_000;
 
-/// The most terms of one comparison, and of one utility.
+/// The most terms of one comparison, and of one utility, and the most keys of a step table.
 const MOST_TERMS: usize = 64;
 
 /// The first of two broken rules.
-fn either(first: Option<Rule>, second: Option<Rule>) -> Option<Rule>
+pub fn either(first: Option<Rule>, second: Option<Rule>) -> Option<Rule>
     ensures { result ≡ or_else first second }
 {
     match first {
@@ -34,7 +33,7 @@ fn either(first: Option<Rule>, second: Option<Rule>) -> Option<Rule>
 }
 
 /// Whether a name that stands for a size is that of a symbol.
-fn check_symbol(allow_reserved: bool, scope: &Scope<'_>, symbol: &Option<Name>) -> Option<Rule>
+pub fn check_symbol(allow_reserved: bool, scope: &Scope<'_>, symbol: &Option<Name>) -> Option<Rule>
     ensures { result ≡ symbol_breaks allow_reserved scope.now symbol.now }
 {
     match symbol {
@@ -97,23 +96,85 @@ fn check_assume(allow_reserved: bool, scope: &Scope<'_>, comps: &[Comp]) -> Opti
     None
 }
 
+/// Whether the keys of a step table rise.
+#[tactic(auto, using(crate::proofs::Rising::rising))]
+fn keys_rise(pairs: &[(u64, u64)]) -> bool
+    ensures { result ≡ rises (map pair_key pairs.now) }
+{
+    let mut rest = pairs;
+    while rest.len() >= 2 {
+        if rest[0].0 >= rest[1].0 {
+            return false;
+        }
+        rest = &rest[1..];
+    }
+    true
+}
+
+/// Whether the first key of a step table, if it has one, is 0.
+fn begins_at_zero(pairs: &[(u64, u64)]) -> bool
+    ensures { result ≡ from_zero (map pair_key pairs.now) }
+{
+    match pairs.first() {
+        Some(pair) => pair.0 == 0,
+        None => true,
+    }
+}
+
+fn check_pair(allow_reserved: bool, pair: &(u64, u64)) -> Option<Rule>
+    ensures { result ≡ first_broken allow_reserved (asks_pair pair.now) }
+{
+    if pair.0 > MOST_NUMBER || pair.1 > MOST_NUMBER {
+        Some(Rule::BadTerm)
+    } else {
+        None
+    }
+}
+
+fn check_pairs(allow_reserved: bool, pairs: &[(u64, u64)]) -> Option<Rule>
+    ensures { result ≡ each_breaks allow_reserved asks_pair pairs.now }
+{
+    for pair in pairs {
+        match check_pair(allow_reserved, pair) {
+            Some(rule) => return Some(rule),
+            None => {}
+        }
+    }
+    None
+}
+
+fn check_steps(
+    allow_reserved: bool,
+    scope: &Scope<'_>,
+    symbol: &Name,
+    pairs: &[(u64, u64)],
+) -> Option<Rule>
+    ensures { result ≡ steps_break allow_reserved scope.now symbol.now pairs.now }
+{
+    if !scope.is_symbol(symbol) {
+        return Some(Rule::UnknownName);
+    }
+    if pairs.len() > MOST_TERMS || !begins_at_zero(pairs) || !keys_rise(pairs) {
+        return Some(Rule::BadTerm);
+    }
+    check_pairs(allow_reserved, pairs)
+}
+
 fn check_util(allow_reserved: bool, scope: &Scope<'_>, term: &UtilTerm) -> Option<Rule>
-    requires { is_linear term.now ≡ true }
     ensures { result ≡ first_broken allow_reserved (asks_util (before_of scope.now) term.now) }
 {
     match term {
         UtilTerm::Lin(term) => check_term(allow_reserved, scope, term),
         UtilTerm::Steps {
             minus: _,
-            symbol: _,
-            pairs: _,
-        } => None,
+            symbol,
+            pairs,
+        } => check_steps(allow_reserved, scope, symbol, pairs.as_slice()),
     }
 }
 
 #[tactic(auto, using(elastic_ast::proofs::Typing::First::firsts))]
 fn check_utility(allow_reserved: bool, scope: &Scope<'_>, terms: &[UtilTerm]) -> Option<Rule>
-    requires { list_all is_linear terms.now ≡ true }
     ensures { result ≡ each_breaks allow_reserved (asks_util (before_of scope.now)) terms.now }
 {
     for term in terms {

@@ -1,17 +1,20 @@
 //! The names that stand in the scope of the program, after the declarations so far.
 
-ghost use Rattle.std.specs.Prelude.{◌≡◌, ◌<◌, ◌+◌, ◌==◌, ◌||◌, true, length, OnOk, OnErr, None, is_some};
+ghost use Rattle.std.specs.Prelude.{◌≡◌, ◌<◌, ◌+◌, ◌==◌, ◌||◌, true, length, OnOk, OnErr, None};
 ghost use Rattle.std.specs.Option.{option_copied};
 ghost use Rattle.elastic_ast.specs.Seen.{seen_decl};
-ghost use Rattle.elastic_ast.specs.Typing.Scope.{is_symbol as is_symbol_of, symbol_of};
-ghost use Rattle.elastic_ast.specs.Typing.AskedOfNames.{top_name};
+ghost use Rattle.elastic_ast.specs.Typing.Scope.{is_symbol as is_symbol_of, found, among};
+ghost use Rattle.elastic_ast.specs.Typing.LookUps.{members_in, meta_in, header_type_in, register_width as register_width_of, register_size as register_size_of, is_member as is_member_of, meta_field};
+ghost use Rattle.elastic_ast.specs.Typing.Types.{constant_width as constant_width_of};
+ghost use Rattle.elastic_ast.specs.Typing.AskedOfNames.{top_name, top_names};
 ghost use Rattle.elastic_ast.specs.Typing.Asked.{DeclKind, is_of_kind, is_first as is_first_of};
 ghost use Rattle.width_check.specs.FirstRules.{IsDeclared, RefusedBy, declared_breaks, PassesOn};
 ghost use Rattle.width_check.specs.Supported.{is_supported};
-ghost use Rattle.width_check.specs.Scoped.{option_list, before_of, name_broken};
+ghost use Rattle.width_check.specs.Scoped.{option_list, before_of, name_broken, StandsUnder, decl_shown, found_next, member_at, type_field, header_field};
 
+use crate::fields::{field_named, has_member, member_named, width_among};
 use crate::table::{Refusal, put};
-use elastic_ast::Decl;
+use elastic_ast::{Decl, Field};
 use elx_bits::Name;
 use indexmap::IndexMap;
 use std::alloc::Global;
@@ -24,7 +27,8 @@ pub struct Scope<'a> {
     decls: &'a [Decl],
     count: usize,
     has_utility: bool,
-    has_metadata: bool,
+    headers: Option<&'a [(Name, Name)]>,
+    metadata: Option<&'a [Field]>,
     names: IndexMap<&'a [u8], &'a Decl>,
 }
 
@@ -41,7 +45,7 @@ impl<'a> Model for Scope<'a> {
 
     ghost view = { λ scope. (scope.decls.now, scope.count) };
 
-    ghost invariant = { λ scope. HasNames (scope.decls.now, scope.count) scope.has_utility scope.has_metadata scope.names.entries };
+    ghost invariant = { λ scope. HasNames (scope.decls.now, scope.count) scope.has_utility scope.headers scope.metadata scope.names.entries };
 }
 
 /// The name that a declaration puts into the scope of the program.
@@ -80,20 +84,32 @@ fn has_utility(known: bool, decl: &Decl) -> bool
     known || matches!(decl, Decl::Maximize(_))
 }
 
-/// Whether the metadata are declared, after one more declaration.
-fn has_metadata(known: bool, decl: &Decl) -> bool
-    ensures { result ≡ (known || is_of_kind DeclKind.Metadata (seen_decl decl.now)) }
+/// The members of `headers_t`, after one more declaration.
+fn headers_after<'a>(
+    known: Option<&'a [(Name, Name)]>,
+    decl: &'a Decl,
+) -> Option<&'a [(Name, Name)]>
+    ensures { option_copied result ≡ found_next members_in known.entry decl.now }
 {
-    known || matches!(decl, Decl::Meta(_))
+    match known {
+        Some(members) => Some(members),
+        None => match decl {
+            Decl::Headers(members) => Some(members.as_slice()),
+            _ => None,
+        },
+    }
 }
 
-/// Whether a declaration is that of a symbol with this name.
-fn is_symbol_named(name: &Name, decl: &Decl) -> bool
-    ensures { result ≡ is_some (symbol_of name.now (seen_decl decl.now)) }
+/// The fields of the metadata, after one more declaration.
+fn metadata_after<'a>(known: Option<&'a [Field]>, decl: &'a Decl) -> Option<&'a [Field]>
+    ensures { option_copied result ≡ found_next meta_in known.entry decl.now }
 {
-    match decl {
-        Decl::Symbol(symbol) => name.as_slice() == symbol.as_slice(),
-        _ => false,
+    match known {
+        Some(fields) => Some(fields),
+        None => match decl {
+            Decl::Meta(fields) => Some(fields.as_slice()),
+            _ => None,
+        },
     }
 }
 
@@ -123,7 +139,8 @@ impl<'a> Scope<'a> {
             decls,
             count: 0,
             has_utility: false,
-            has_metadata: false,
+            headers: None,
+            metadata: None,
             names: IndexMap::new(alloc),
         }
     }
@@ -142,7 +159,8 @@ impl<'a> Scope<'a> {
             Err(refusal) => return Err(refusal),
         }
         self.has_utility = has_utility(self.has_utility, decl);
-        self.has_metadata = has_metadata(self.has_metadata, decl);
+        self.headers = headers_after(self.headers, decl);
+        self.metadata = metadata_after(self.metadata, decl);
         self.count += 1;
         Ok(())
     }
@@ -156,20 +174,140 @@ impl<'a> Scope<'a> {
         let _ = &self.decls;
         match decl {
             Decl::Maximize(_) => !self.has_utility,
-            Decl::Meta(_) => !self.has_metadata,
+            Decl::Meta(_) => self.metadata.is_none(),
             _ => true,
         }
+    }
+
+    /// The declaration before of a name.
+    fn declared(&self, name: &Name) -> Option<&'a Decl>
+        ensures { StandsUnder name.now (before_of self.now) (decl_shown result) }
+    {
+        // A field is named, so that what holds of the fields is known.
+        let _ = &self.decls;
+        self.names.get(name.as_slice()).copied()
+    }
+
+    /// Whether one of the declarations before declares a name.
+    pub fn is_declared(&self, name: &Name) -> bool
+        ensures { result ≡ among (top_names (before_of self.now)) name.now }
+    {
+        self.declared(name).is_some()
     }
 
     /// Whether one of the declarations before is that of a symbol with this name.
     pub fn is_symbol(&self, name: &Name) -> bool
         ensures { result ≡ is_symbol_of (before_of self.now) name.now }
     {
-        // A field is named, so that what holds of the fields is known.
+        match self.declared(name) {
+            Some(Decl::Symbol(_)) => true,
+            _ => false,
+        }
+    }
+    /// The width of a constant.
+    pub fn constant_width(&self, name: &Name) -> Option<u8>
+        ensures { result ≡ constant_width_of (before_of self.now) name.now }
+    {
+        match self.declared(name) {
+            Some(
+                Decl::Const {
+                    name: _,
+                    width,
+                    value: _,
+                },
+            ) => Some(*width),
+            _ => None,
+        }
+    }
+
+    /// The fields of a header type.
+    pub fn fields_of_type(&self, name: &Name) -> Option<&'a [Field]>
+        ensures { option_copied result ≡ found (header_type_in name.now) (before_of self.now) }
+    {
+        match self.declared(name) {
+            Some(Decl::Header { fields, .. }) => Some(fields.as_slice()),
+            _ => None,
+        }
+    }
+
+    /// The width of a register's cells.
+    pub fn register_width(&self, name: &Name) -> Option<u8>
+        ensures { result ≡ register_width_of (before_of self.now) name.now }
+    {
+        match self.declared(name) {
+            Some(
+                Decl::Register {
+                    name: _,
+                    width,
+                    cells: _,
+                    size: _,
+                },
+            ) => Some(*width),
+            _ => None,
+        }
+    }
+
+    /// The size of a register, which it has where it is an array.
+    pub fn register_size(&self, name: &Name) -> Option<&'a Option<Name>>
+        ensures { option_copied result ≡ register_size_of (before_of self.now) name.now }
+    {
+        match self.declared(name) {
+            Some(
+                Decl::Register {
+                    name: _,
+                    width: _,
+                    cells: _,
+                    size,
+                },
+            ) => Some(size),
+            _ => None,
+        }
+    }
+
+    /// Whether a name is that of a header.
+    pub fn is_member(&self, header: &Name) -> bool
+        ensures { result ≡ is_member_of (before_of self.now) header.now }
+    {
         let _ = &self.decls;
-        match self.names.get(name.as_slice()) {
-            Some(decl) => is_symbol_named(name, decl),
+        match self.headers {
+            Some(members) => has_member(members, header),
             None => false,
         }
+    }
+
+    /// The width of a field of a header type.
+    fn type_field_width(&self, name: &Name, field: &Name) -> Option<u8>
+        ensures { result ≡ type_field self.now name.now field.now }
+    {
+        match self.fields_of_type(name) {
+            Some(fields) => width_among(fields, field),
+            None => None,
+        }
+    }
+
+    /// A member of `headers_t`: the name of its type, and its own.
+    fn member(&self, header: &Name) -> Option<&'a (Name, Name)>
+        ensures { option_copied result ≡ member_at self.now header.now }
+    {
+        let members = self.headers?;
+        member_named(members, header)
+    }
+
+    /// The width of a header's field.
+    pub fn header_field_width(&self, header: &Name, field: &Name) -> Option<u8>
+        ensures { result ≡ header_field self.now header.now field.now }
+    {
+        match self.member(header) {
+            Some(member) => self.type_field_width(&member.0, field),
+            None => None,
+        }
+    }
+
+    /// A field of the metadata.
+    pub fn metadata_field(&self, name: &Name) -> Option<&'a Field>
+        ensures { option_copied result ≡ meta_field (before_of self.now) name.now }
+    {
+        let fields = self.metadata?;
+        field_named(fields, name)
     }
 }

@@ -53,7 +53,7 @@ pub fn is_fixed(name: &[u8]) -> bool
 }
 
 /// The rule that a declared name breaks, where `known` says whether its scope has it already.
-fn broken_name(allow_reserved: bool, known: bool, name: &[u8]) -> Option<Rule>
+pub fn broken_name(allow_reserved: bool, known: bool, name: &[u8]) -> Option<Rule>
     ensures { result ≡ name_rule allow_reserved known name.now }
 {
     if known || is_fixed(name) {

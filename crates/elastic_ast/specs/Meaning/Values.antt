@@ -1,6 +1,6 @@
 -- The value of an expression, a whole number; true is 1 and false is 0 (P4-16 language specification 1.2.3, section 8; the
 -- hash and the widths of bare numbers are this project's own).
-use Rattle.std.specs.Prelude.{ℕ, ◌==◌, nat_lt, nat_le, Bool, true, false, not, ◌&&◌, ◌||◌, List, zip, find, bit_and, bit_or, bit_xor, Option, option_map, unwrap_or, if◌then◌else◌}
+use Rattle.std.specs.Prelude.{ℕ, ◌==◌, nat_lt, nat_le, Bool, true, false, not, ◌&&◌, ◌||◌, List, zip, find, bit_and, bit_or, bit_xor, Option, None, option_map, unwrap_or, if◌then◌else◌}
 use Rattle.elastic_ast.specs.declared.statements.Amount.{Amount}
 use Rattle.elastic_ast.specs.declared.statements.Amount.TheVariants as amount
 use Rattle.elastic_ast.specs.declared.declarations.Param.{Param}
@@ -12,7 +12,7 @@ use Rattle.elastic_ast.specs.Sizes.SizeSums.{symbols_of, size_of}
 use Rattle.elastic_ast.specs.Containers.LocationPlaces.{place_of_lval, valid_place}
 use Rattle.elastic_ast.specs.Typing.LookUps.{declared_constant}
 use Rattle.elastic_ast.specs.OperatorSorts.{Operator, Or, And, Equal, Differ, Less, AtMost, Greater, AtLeast, BitOr, BitXor, BitAnd, ShiftUp, ShiftDown, Plus, Minus, Join, Times, Turn, Negate, NoOperator, operator_of, sort_of}
-use Rattle.elastic_ast.specs.Typing.Types.{Ty, Bits, Bare, Names, outcome, left_giver, right_giver, width_of_type, type_of, type_at}
+use Rattle.elastic_ast.specs.Typing.Types.{Ty, Bare, Names, bits_of, outcome, left_giver, right_giver, width_of_type, type_of, type_at}
 use Rattle.elastic_ast.specs.Meaning.Memory.{Memory, At}
 
 -- what stays the same while an expression is worked out: the declarations, a size for each symbol, the parameters of the
@@ -24,8 +24,9 @@ pub record Setting : Type 0 where
   pub args : List ℕ
   pub index : Option ℕ
 
+-- a typed expression doesn't name the index around, so that it hides nothing
 abbrev pub names_of : Setting → Names
-names_of setting = record { before = setting.decls; params = setting.params }
+names_of setting = record { before = setting.decls; params = setting.params; index = None }
 
 abbrev pub bit : Bool → ℕ
 bit true = 1
@@ -104,7 +105,7 @@ value setting memory (PlainExpr.Binary op left right) giver =
     apply operator (width_of_type (outcome sort a b)) (width_of_type b)
     (value setting memory left (left_giver sort a b))
     (value setting memory right (right_giver sort a b))
-value setting memory (PlainExpr.Cast width of) giver = words.cast width (value setting memory of (Bits width))
+value setting memory (PlainExpr.Cast width of) giver = words.cast width (value setting memory of (bits_of width))
 value setting memory (PlainExpr.Slice of high low) giver = words.slice high low (value setting memory of Bare)
 value setting memory (PlainExpr.Hash k of modulus) giver =
     hashed (count_value setting k) (value setting memory of Bare) (amount_value setting modulus)

@@ -9,7 +9,7 @@ use Rattle.elastic_ast.specs.declared.declarations.Param.{Param}
 use Rattle.elastic_ast.specs.Tree.{PlainDecl, PlainExpr, PlainStmt, PlainStmts, PlainAction, PlainTable}
 use Rattle.elastic_ast.specs.Containers.LocationPlaces.{index_at, place_of_lval, valid_place}
 use Rattle.elastic_ast.specs.Typing.LookUps.{register_width, action_of, table_of}
-use Rattle.elastic_ast.specs.Typing.Types.{Bits, of_width, width_of_type, lval_type}
+use Rattle.elastic_ast.specs.Typing.Types.{Bits, bits_of, of_width, width_of_type, lval_type}
 use Rattle.elastic_ast.specs.Meaning.Memory.{Memory, Reg, Writes, nothing, over, and_then, put, store}
 use Rattle.elastic_ast.specs.Meaning.Values.{Setting, bit, value}
 use Rattle.elastic_ast.specs.Meaning.Matches.{Run, chosen}
@@ -56,7 +56,7 @@ body_writes setting memory (PlainStmts.cons first rest) =
 
 -- the values of arguments, each in the width of its parameter
 abbrev pub arguments : Setting → Memory → List Param → List PlainExpr → List ℕ
-arguments setting memory (param ∷ params) (arg ∷ args) = value setting memory arg (Bits param.width) ∷ arguments setting memory params args
+arguments setting memory (param ∷ params) (arg ∷ args) = value setting memory arg (bits_of param.width) ∷ arguments setting memory params args
 arguments setting memory _ _ = []
 
 abbrev pub action_writes : Setting → Memory → List PlainExpr → Option PlainAction → Writes

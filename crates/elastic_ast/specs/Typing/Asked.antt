@@ -9,7 +9,7 @@ use Rattle.elastic_ast.specs.declared.declarations.UtilTerm.TheVariants as util
 use Rattle.elastic_ast.specs.Tree.{Name, PlainDecl, PlainKeyset, PlainNext, PlainState}
 use Rattle.elastic_ast.specs.Typing.Scope.{among, found, is_symbol, top}
 use Rattle.elastic_ast.specs.Typing.LookUps.{is_header_type, has_headers, member_name, is_member, bits_of_fields, has_meta}
-use Rattle.elastic_ast.specs.Typing.Types.{Ty, Bits, Bare, type_of}
+use Rattle.elastic_ast.specs.Typing.Types.{Ty, Bare, bits_of, type_of}
 use Rattle.elastic_ast.specs.Packets.MainParts.{parser_in, control_in, deparser_in}
 use Rattle.elastic_ast.specs.Typing.Demand.{Demand, Known, First, Wide, Fits, Number, Term, Few, Rising, Bytes, Keyed, has_width}
 use Rattle.elastic_ast.specs.Typing.AskedOfNames.{asks_names, top_name, top_names, asks_symbol, asks_amount}
@@ -129,7 +129,7 @@ asks_decl before (PlainDecl.Include number) = []
 asks_decl before (PlainDecl.Symbol name) = []
 asks_decl before (PlainDecl.Assume comps) = flat_map (asks_comp before) comps
 asks_decl before (PlainDecl.Maximize terms) = Few (length terms) ∷ flat_map (asks_util before) terms
-asks_decl before (PlainDecl.Const name width value) = Wide width ∷ Fits value (Bits width) ∷ []
+asks_decl before (PlainDecl.Const name width value) = Wide width ∷ Fits value (bits_of width) ∷ []
 asks_decl before (PlainDecl.Header name fields) = asks_header fields
 asks_decl before (PlainDecl.Headers members) = asks_members before members
 asks_decl before (PlainDecl.Meta fields) = asks_fields before fields

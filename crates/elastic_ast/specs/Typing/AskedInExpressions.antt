@@ -10,12 +10,12 @@ use Rattle.elastic_ast.specs.Tree.{Name, PlainExpr}
 use Rattle.elastic_ast.specs.Typing.Scope.{same, Scope, is_index}
 use Rattle.elastic_ast.specs.Typing.LookUps.{declared_constant, is_member, header_fields, meta_field, width_among, std_width}
 use Rattle.elastic_ast.specs.OperatorSorts.{operator_of, Sort, Logic, Comparison, Shift, Joining, Arithmetic, sort_of}
-use Rattle.elastic_ast.specs.Typing.Types.{Ty, Bits, Bare, Names, taking, left_giver, right_giver, param_width, type_of}
+use Rattle.elastic_ast.specs.Typing.Types.{Ty, Bits, Bare, Names, bits_of, taking, left_giver, right_giver, param_width, type_of}
 use Rattle.elastic_ast.specs.Typing.Demand.{Demand, Known, Wide, Alike, HasWidth, Fits, Boolean, Number, Indexed, Cut}
 use Rattle.elastic_ast.specs.Typing.AskedOfNames.{asks_amount}
 
 abbrev pub names_at : Scope → Names
-names_at scope = record { before = scope.before; params = scope.params }
+names_at scope = record { before = scope.before; params = scope.params; index = scope.index }
 
 -- what stands in brackets is the index around
 abbrev pub asks_index : Scope → Option Name → List Demand
@@ -49,7 +49,7 @@ asks_named scope name =
 
 -- a number has its own width, or that of its place
 abbrev pub asks_number : Option ℕ → ℕ → Ty → List Demand
-asks_number (Some width) number giver = Wide width ∷ Fits number (Bits width) ∷ []
+asks_number (Some width) number giver = Wide width ∷ Fits number (bits_of width) ∷ []
 asks_number None number giver = Fits number giver ∷ []
 
 -- the first argument of `hash`: a number, or the index around
@@ -84,7 +84,8 @@ asks_sort Joining left right = Number left ∷ Number right ∷ HasWidth left �
 abbrev pub asks_cast : ℕ → Ty → List Demand
 asks_cast width of = if width == 1 then [] else Number of ∷ []
 
--- what an expression asks at a place that gives it a width: its operands first, each at the place that it gives them
+-- what an expression asks at a place that gives it a width: its operands first, each at the place that it gives them, and the
+-- width of a cast before its operand
 abbrev pub asks_expr : Scope → PlainExpr → Ty → List Demand
 asks_expr scope (PlainExpr.Num width number) giver = asks_number width number giver
 asks_expr scope (PlainExpr.Truth value) giver = []
@@ -97,7 +98,7 @@ asks_expr scope (PlainExpr.Binary op left right) giver =
     asks_expr scope left (left_giver (sort_of (operator_of op)) (type_of (names_at scope) left) (type_of (names_at scope) right))
     ++ (asks_expr scope right (right_giver (sort_of (operator_of op)) (type_of (names_at scope) left) (type_of (names_at scope) right))
     ++ asks_sort (sort_of (operator_of op)) (type_of (names_at scope) left) (type_of (names_at scope) right))
-asks_expr scope (PlainExpr.Cast width of) giver = asks_expr scope of (Bits width) ++ (Wide width ∷ asks_cast width (type_of (names_at scope) of))
+asks_expr scope (PlainExpr.Cast width of) giver = Wide width ∷ (asks_expr scope of (bits_of width) ++ asks_cast width (type_of (names_at scope) of))
 asks_expr scope (PlainExpr.Slice of high low) giver =
     asks_expr scope of Bare
     ++ (Number (type_of (names_at scope) of) ∷ HasWidth (type_of (names_at scope) of) ∷ Cut high low (type_of (names_at scope) of) ∷ [])

@@ -6,7 +6,7 @@ use Rattle.elastic_ast.specs.declared.declarations.Key.{Key}
 use Rattle.elastic_ast.specs.Tree.{Name, PlainDecl, PlainExpr, PlainStmts, PlainKeyset, PlainEntry, PlainAction, PlainTable, PlainLocal}
 use Rattle.elastic_ast.specs.Typing.Scope.{among, Scope, top}
 use Rattle.elastic_ast.specs.Typing.LookUps.{declared_constant}
-use Rattle.elastic_ast.specs.Typing.Types.{Ty, Bits, of_width, constant_width, lval_type}
+use Rattle.elastic_ast.specs.Typing.Types.{Ty, bits_of, of_width, constant_width, lval_type}
 use Rattle.elastic_ast.specs.Typing.Demand.{Demand, Known, Wide, Alike, Constant, NoRegister, Keyed, Listed, Called}
 use Rattle.elastic_ast.specs.Typing.AskedOfNames.{asks_names, top_names}
 use Rattle.elastic_ast.specs.Typing.AskedInExpressions.{asks_lval, asks_bits}
@@ -62,7 +62,7 @@ asks_sets before (set ∷ sets) (key ∷ keys) =
 abbrev pub asks_values : List PlainDecl → List PlainExpr → List Param → List Demand
 asks_values before [] params = Called (length params == 0) ∷ []
 asks_values before (value ∷ values) [] = Called false ∷ []
-asks_values before (value ∷ values) (param ∷ params) = asks_value before value (Bits param.width) ++ asks_values before values params
+asks_values before (value ∷ values) (param ∷ params) = asks_value before value (bits_of param.width) ++ asks_values before values params
 
 -- an action with its arguments, which a table runs
 abbrev pub asks_run : List PlainDecl → List PlainLocal → Name → List PlainExpr → List Demand

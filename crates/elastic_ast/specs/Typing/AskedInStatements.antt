@@ -7,7 +7,7 @@ use Rattle.elastic_ast.specs.declared.declarations.Param.{Param}
 use Rattle.elastic_ast.specs.Tree.{Name, PlainExpr, PlainStmt, PlainStmts, PlainAction, PlainLocal}
 use Rattle.elastic_ast.specs.Typing.Scope.{same, found, is_symbol, Scope, is_index}
 use Rattle.elastic_ast.specs.Typing.LookUps.{is_member, register_size, register_width, action_in, table_in}
-use Rattle.elastic_ast.specs.Typing.Types.{Ty, Bits, of_width, lval_type}
+use Rattle.elastic_ast.specs.Typing.Types.{Ty, Bits, bits_of, of_width, lval_type}
 use Rattle.elastic_ast.specs.Typing.Demand.{Demand, Known, Alike, Indexed, Alone, Called}
 use Rattle.elastic_ast.specs.Typing.AskedOfNames.{asks_names}
 use Rattle.elastic_ast.specs.Typing.AskedInExpressions.{asks_index, index_fits, asks_lval, asks_bits, asks_truth}
@@ -56,7 +56,7 @@ register_type scope register = of_width (register_width scope.before register.na
 abbrev pub asks_args : Scope → List PlainExpr → List Param → List Demand
 asks_args scope [] params = Called (length params == 0) ∷ []
 asks_args scope (arg ∷ args) [] = Called false ∷ []
-asks_args scope (arg ∷ args) (param ∷ params) = asks_bits scope arg (Bits param.width) ++ asks_args scope args params
+asks_args scope (arg ∷ args) (param ∷ params) = asks_bits scope arg (bits_of param.width) ++ asks_args scope args params
 
 -- an action with an index is called with the index around, and another action without one
 abbrev pub is_called : Scope → Option Name → Option Name → Bool

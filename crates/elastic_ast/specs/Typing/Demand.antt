@@ -1,11 +1,12 @@
--- What a declaration asks, and of which rule; this project's own. Each line of `met` is one rule, or one part of one.
+-- What a declaration asks, and of which rule; this project's own. Each line of `met` is one rule, or one part of one. What has
+-- no known type breaks a rule already, and meets what is asked of its type.
 use Rattle.std.specs.Prelude.{ℕ, ◌==◌, ◌%◌, ◌^◌, nat_le, nat_lt, Bool, true, false, not, ◌&&◌, ◌||◌, List, [], ◌∷◌, Option, Some, None, codes, if◌then◌else◌}
-use Rattle.elastic_ast.specs.Typing.LanguageLimits.{most_width, most_number, most_terms}
+use Rattle.elastic_ast.specs.Typing.LanguageLimits.{most_number, most_terms}
 use Rattle.elastic_ast.specs.declared.rule.Rule.{Rule}
 use Rattle.elastic_ast.specs.declared.rule.Rule.TheVariants.{UnknownName, Twice, Width, NoWidth, LiteralTooWide, NotBool, NotConst, BadIndex, BadAmount, BadTerm, BadSlice, OddHeader, NestedLoop, RegisterInTable, BadKey, BadEntries, BadCall, ReservedName}
 use Rattle.elastic_ast.specs.Tree.{Name}
 use Rattle.elastic_ast.specs.Typing.Scope.{among}
-use Rattle.elastic_ast.specs.Typing.Types.{Ty, Bits, Bare, Truth}
+use Rattle.elastic_ast.specs.Typing.Types.{Ty, Bits, Bare, Truth, Unknown, is_width, lie_within}
 
 pub data Demand : Type 0 where
   Known : Bool → Demand  -- the name is declared before, as what its place asks for
@@ -85,9 +86,13 @@ abbrev pub is_truth : Ty → Bool
 is_truth Truth = true
 is_truth type = false
 
+abbrev pub may_be_truth : Ty → Bool
+may_be_truth Unknown = true
+may_be_truth type = is_truth type
+
 -- `low <= high < width`; what has no width breaks another rule
 abbrev pub is_cut : ℕ → ℕ → Ty → Bool
-is_cut high low (Bits width) = nat_le low high && nat_lt high width
+is_cut high low (Bits width) = lie_within high low width
 is_cut high low type = nat_le low high
 
 abbrev pub rises : List ℕ → Bool
@@ -104,11 +109,11 @@ abbrev pub met : Bool → Demand → Bool
 met allow (Known known) = known
 met allow (Fresh before name) = not (among before name) && not (among fixed_names name)
 met allow (First first) = first
-met allow (Wide width) = nat_le 1 width && nat_le width most_width
+met allow (Wide width) = is_width width
 met allow (Alike left right) = alike left right
 met allow (HasWidth type) = has_width type
 met allow (Fits number type) = fits_type number type
-met allow (Boolean type) = is_truth type
+met allow (Boolean type) = may_be_truth type
 met allow (Number type) = not (is_truth type)
 met allow (Constant known) = known
 met allow (Indexed fits_type) = fits_type

@@ -10,7 +10,8 @@ plain_registers (PlainStmt.Read to register cell) = register.name ∷ []
 plain_registers (PlainStmt.Write register cell value) = register.name ∷ []
 plain_registers _ = []
 
--- the registers that the body of an action names
+-- The registers that the body of an action names. It has plain statements alone, and no text spells another body: so what
+-- stands in a block, a branch or a loop there isn't looked at, as it writes nothing.
 abbrev pub body_registers : PlainStmts → List Name
 body_registers PlainStmts.nil = []
 body_registers (PlainStmts.cons first rest) = plain_registers first ++ body_registers rest

@@ -41,10 +41,11 @@ pub record Scope : Type 0 where
 abbrev pub top : List PlainDecl → Scope
 top decls = record { before = decls; params = []; index = None; sizes = [] }
 
+-- the name is that of an index, where there is one
+abbrev pub is_name_of : Option Name → Name → Bool
+is_name_of None name = false
+is_name_of (Some index) name = same name index
+
 -- the name is that of the index around
 abbrev pub is_index : Scope → Name → Bool
-is_index scope name = of scope.index
-  where
-    of : Option Name → Bool
-    of None = false
-    of (Some index) = same name index
+is_index scope name = is_name_of scope.index name

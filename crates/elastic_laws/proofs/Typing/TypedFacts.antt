@@ -1,11 +1,12 @@
 -- What a typed program has: its demands are met, and what follows for its loops, tables, headers, names and widths.
-use Rattle.std.proofs.Common.{◌≡◌, ℕ, zero, suc, ◌≤◌, inl, Bool, true, false, ◌&&◌, List, [], ◌∷◌, ◌++◌, map, take, Option, Some, None, refl, sym, ap, ◌∙◌, true≢false, arith}
+use Rattle.std.proofs.Common.{◌≡◌, ℕ, zero, suc, ◌≤◌, inl, Bool, true, false, List, [], ◌∷◌, ◌++◌, map, take, Option, Some, None, refl, sym, ap, ◌∙◌, true≢false, arith}
 use Rattle.std.proofs.lemmas.Bool.{and_parts}
 use Rattle.std.specs.Prelude.{if◌then◌else◌, slice_get, Contains, is_some, is_none, option_and_then, unwrap_or, nat_le}
 use Rattle.std.proofs.lemmas.Bool.Decides.{nat_tests}
 use Rattle.elastic_ast.specs.declared.rule.Rule.{Rule}
 use Rattle.elastic_ast.specs.Tree.{Name, PlainDecl, PlainStmt, PlainStmts, PlainLocal}
 use Rattle.elastic_ast.specs.Typing.Scope.{same, or_else, found, is_symbol, Scope, top}
+use Rattle.elastic_ast.specs.Typing.Types.{Bits, Unknown, is_width, bits_of}
 use Rattle.elastic_ast.specs.Typing.Demand.{Demand, Known, Alone, First, met, rule_of, first_broken}
 use Rattle.elastic_ast.specs.Packets.MainParts.{Main, main_in, control_in, body_of}
 use Rattle.elastic_ast.specs.Typing.AskedOfNames.{asks_names, top_name, top_names}
@@ -74,7 +75,10 @@ take_take (suc n) (d ∷ ds) (suc i) x e = ap (λ z. d ∷ z) (take_take n ds i 
 pub front_met : (allow : Bool) (ds : List PlainDecl) → IsMet allow ds → (n : ℕ) → IsMet allow (take n ds)
 front_met allow ds t n d x e = ap (λ z. first_broken allow (asked z x)) (take_take n ds d x e) ∙ t d x (taken n ds d x e)
 
-pub wide_is : (width : ℕ) → (nat_le 1 width && nat_le width 128) ≡ true → (1 ≤ width) × (width ≤ 128)
+pub wide_bits : (width : ℕ) → is_width width ≡ true → bits_of width ≡ Bits width
+wide_bits width h = ap (λ b. if b then Bits width else Unknown) h
+
+pub wide_is : (width : ℕ) → is_width width ≡ true → (1 ≤ width) × (width ≤ 128)
 wide_is width h =
     let a : nat_le 1 width ≡ true = (and_parts (nat_le 1 width) (nat_le width 128) h).0 in
     let b : nat_le width 128 ≡ true = (and_parts (nat_le 1 width) (nat_le width 128) h).1 in

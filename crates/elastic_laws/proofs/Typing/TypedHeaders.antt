@@ -7,14 +7,14 @@ use Rattle.elastic_ast.specs.declared.rule.Rule.TheVariants.{ParserLoop}
 use Rattle.elastic_ast.specs.Tree.{Name, PlainDecl, PlainState}
 use Rattle.elastic_ast.specs.Typing.Scope.{same, found}
 use Rattle.elastic_ast.specs.Typing.LookUps.{constant_in, declared_constant, members_in, members_of, member_name, is_member, header_type_in, fields_of_type, header_fields, bits_of_fields, meta_in, meta_fields, has_headers, register_in, register_width}
-use Rattle.elastic_ast.specs.Typing.Types.{Bits}
+use Rattle.elastic_ast.specs.Typing.Types.{bits_of}
 use Rattle.elastic_ast.specs.Packets.MainParts.{Main, main_in, parser_in, states_of, deparser_in, emits_of}
 use Rattle.elastic_ast.specs.Typing.ParserLoops.{state_names, Loops}
-use Rattle.elastic_ast.specs.Typing.Demand.{Known, Wide, Fits, Bytes, first_broken}
+use Rattle.elastic_ast.specs.Typing.Demand.{Known, Wide, Fits, Bytes, first_broken, fits_type}
 use Rattle.elastic_ast.specs.Typing.AskedOfNames.{asks_names, asks_symbol, asks_amount}
 use Rattle.elastic_ast.specs.Typing.Asked.{field_name, asks_decl, asks_field, asks_width, asks_member, asks_named_header, asks_next, asks_state, asks_structs}
 use Rattle.elastic_ast.specs.Typing.Typed.{Typed}
-use Rattle.elastic_laws.proofs.Typing.TypedFacts.{wide_is, parts, head_met, typed_own, IsMet, met_own, if_some, FoundAt, found_at}
+use Rattle.elastic_laws.proofs.Typing.TypedFacts.{wide_bits, wide_is, parts, head_met, typed_own, IsMet, met_own, if_some, FoundAt, found_at}
 use Rattle.elastic_laws.proofs.Typing.TypedNames.{Distinct, names_distinct}
 use Rattle.elastic_laws.proofs.Typing.TypedTables.{item_met}
 use Rattle.elastic_laws.proofs.Typing.TypedStays.{member_stays}
@@ -117,11 +117,12 @@ IsConstant constant = (1 ≤ constant.0) × (constant.0 ≤ 128) × (nat_lt cons
 
 constant_given : (name : Name) (x : PlainDecl) (constant : ℕ × ℕ) → constant_in name x ≡ Some constant → (allow : Bool) (before : List PlainDecl) → first_broken allow (asks_decl before x) ≡ None → IsConstant constant
 constant_given name (PlainDecl.Const other width value) constant h allow before k =
-    let p = head_met allow (Wide width) (Fits value (Bits width) ∷ []) k in
+    let p = head_met allow (Wide width) (Fits value (bits_of width) ∷ []) k in
     let w = wide_is width p.0 in
     let own : ℕ × ℕ = (width, value) in
     let e : own ≡ constant = if_some (same name other) own constant h in
-    subst IsConstant e (w.0, w.1, (head_met allow (Fits value (Bits width)) [] p.1).0)
+    let fits : fits_type value (bits_of width) ≡ true = (head_met allow (Fits value (bits_of width)) [] p.1).0 in
+    subst IsConstant e (w.0, w.1, ap (fits_type value) (sym (wide_bits width p.0)) ∙ fits)
 constant_given name other constant h allow before k = cc
 
 pub constant_fits : (allow : Bool) (ds : List PlainDecl) → IsMet allow ds → (name : Name) (constant : ℕ × ℕ) → declared_constant ds name ≡ Some constant

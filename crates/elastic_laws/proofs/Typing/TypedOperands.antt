@@ -6,12 +6,12 @@ use Rattle.elastic_ast.specs.declared.statements.Lval.{Lval}
 use Rattle.elastic_ast.specs.Tree.{Name, PlainExpr, PlainStmt, PlainStmts, PlainLocal}
 use Rattle.elastic_ast.specs.Typing.Scope.{Scope}
 use Rattle.elastic_ast.specs.OperatorSorts.{operator_of, sort_of}
-use Rattle.elastic_ast.specs.Typing.Types.{Ty, Bits, Bare, left_giver, right_giver, lval_type, type_of}
+use Rattle.elastic_ast.specs.Typing.Types.{Ty, Bare, bits_of, left_giver, right_giver, lval_type, type_of}
 use Rattle.elastic_ast.specs.Typing.Demand.{Alike, HasWidth, Number, Wide, Cut, Boolean, first_broken}
 use Rattle.elastic_ast.specs.Typing.AskedOfNames.{asks_amount}
 use Rattle.elastic_ast.specs.Typing.AskedInExpressions.{names_at, turned_giver, asks_turned, asks_cast, asks_count, asks_expr, asks_bits, asks_truth, asks_lval}
 use Rattle.elastic_ast.specs.Typing.AskedInStatements.{asks_loop, in_loop, asks_stmt, asks_stmts}
-use Rattle.elastic_laws.proofs.Typing.TypedFacts.{parts}
+use Rattle.elastic_laws.proofs.Typing.TypedFacts.{parts, head_met}
 use Rattle.elastic_laws.proofs.Typing.TypedStays.{operands}
 
 -- the expression asks nothing that isn't so at a place that gives it a width
@@ -34,8 +34,11 @@ typed-left allow s op a b x giver e h = (operands allow s op a b giver (subst (�
 pub typed-right : (allow : Bool) (s : Scope) (op : ℕ) (a b x : PlainExpr) (giver : Ty) → x ≡ PlainExpr.Binary op a b → first_broken allow (asks_expr s x giver) ≡ None → first_broken allow (asks_expr s b (right_giver (sort_of (operator_of op)) (type_of (names_at s) a) (type_of (names_at s) b))) ≡ None
 typed-right allow s op a b x giver e h = (operands allow s op a b giver (subst (λ z. IsTypedExpr allow s z giver) e h)).1
 
-pub typed-cast : (allow : Bool) (s : Scope) (w : ℕ) (a x : PlainExpr) (giver : Ty) → x ≡ PlainExpr.Cast w a → first_broken allow (asks_expr s x giver) ≡ None → first_broken allow (asks_expr s a (Bits w)) ≡ None
-typed-cast allow s w a x giver e h = (parts allow (asks_expr s a (Bits w)) (Wide w ∷ asks_cast w (type_of (names_at s) a)) (subst (λ z. IsTypedExpr allow s z giver) e h)).0
+pub typed-cast : (allow : Bool) (s : Scope) (w : ℕ) (a x : PlainExpr) (giver : Ty) → x ≡ PlainExpr.Cast w a → first_broken allow (asks_expr s x giver) ≡ None → first_broken allow (asks_expr s a (bits_of w)) ≡ None
+typed-cast allow s w a x giver e h =
+    let operand = asks_expr s a (bits_of w) in
+    let own = asks_cast w (type_of (names_at s) a) in
+    (parts allow operand own (head_met allow (Wide w) (operand ++ own) (subst (λ z. IsTypedExpr allow s z giver) e h)).1).0
 
 pub typed-slice : (allow : Bool) (s : Scope) (high low : ℕ) (a x : PlainExpr) (giver : Ty) → x ≡ PlainExpr.Slice a high low → first_broken allow (asks_expr s x giver) ≡ None → first_broken allow (asks_expr s a Bare) ≡ None
 typed-slice allow s high low a x giver e h =

@@ -36,7 +36,7 @@ are_registers before names = list_all (is_register before) names
 abbrev pub names_registers : List PlainDecl → Naming → Bool
 names_registers before naming = are_registers before naming.1
 
-register_known : (allow : Bool) (s : Scope) (o : Option (Option Name)) (index : Option Name) → first_broken allow (asks_register s o index) ≡ None → is_some o ≡ true
+pub register_known : (allow : Bool) (s : Scope) (o : Option (Option Name)) (index : Option Name) → first_broken allow (asks_register s o index) ≡ None → is_some o ≡ true
 register_known allow s None index h = absurd (true≢false (sym (head_met allow (Known false) (asks_index s index) h).0))
 register_known allow s (Some size) index h = refl
 

@@ -1,4 +1,5 @@
--- A typed expression keeps its type where more declarations are in scope.
+-- A typed expression keeps its type in the run of the whole program: where more declarations are in scope, and no index hides
+-- a constant.
 use Rattle.std.proofs.Common.{◌≡◌, ℕ, Bool, true, false, List, [], ◌∷◌, ◌++◌, map, Option, Some, None, refl, sym, ap, ◌∙◌, true≢false}
 use Rattle.std.specs.Prelude.{if◌then◌else◌, is_some, option_map, unwrap_or, find}
 use Rattle.elastic_ast.specs.declared.statements.Lval.{Lval}
@@ -8,14 +9,14 @@ use Rattle.elastic_ast.specs.Tree.{Name, PlainDecl, PlainExpr}
 use Rattle.elastic_ast.specs.Typing.Scope.{same, among, or_else, found, Scope, is_index}
 use Rattle.elastic_ast.specs.Typing.LookUps.{constant_in, declared_constant, header_type_in, members_in, members_of, member_name, is_member, fields_of_type, header_fields, meta_in, meta_fields, meta_field, width_among}
 use Rattle.elastic_ast.specs.OperatorSorts.{operator_of, sort_of}
-use Rattle.elastic_ast.specs.Typing.Types.{Ty, of_width, outcome, left_giver, right_giver, turned_type, lval_type, param_width, constant_width, named_type, type_of}
-use Rattle.elastic_ast.specs.Typing.Demand.{Known, Indexed, first_broken}
+use Rattle.elastic_ast.specs.Typing.Types.{Ty, Bare, Names, of_width, part_type, outcome, left_giver, right_giver, turned_type, lval_type, param_width, constant_width, named_type, type_of}
+use Rattle.elastic_ast.specs.Typing.Demand.{Known, Indexed, Number, HasWidth, Cut, first_broken}
 use Rattle.elastic_ast.specs.Typing.AskedInExpressions.{names_at, asks_index, asks_element, asks_lval, asks_named, turned_giver, asks_turned, asks_sort, asks_expr}
 use Rattle.elastic_laws.proofs.Typing.TypedFacts.{parts, head_met}
 
--- the same place, with more declarations before it
-abbrev pub wider : Scope → List PlainDecl → Scope
-wider scope more = record scope { before = scope.before ++ more }
+-- the names at a place, with more declarations before it and no index around
+abbrev pub names_among : Scope → List PlainDecl → Names
+names_among scope more = record { before = scope.before ++ more; params = scope.params; index = None }
 
 -- what is found among the first declarations is what is found among all
 pub found_stays : {A B : Type 0} (f : A → Option B) (xs ys : List A) → is_some (found f xs) ≡ true → found f (xs ++ ys) ≡ found f xs
@@ -66,7 +67,7 @@ module _ (ds more : List PlainDecl) where
       by None e = absurd (true≢false (sym h ∙ ap (λ z. is_some (find (λ (field : Field). same name field.name) (unwrap_or z []))) e))
       by (Some fields) e = ap (λ z. unwrap_or z []) (found_stays meta_in ds more (ap is_some e))
 
-field_is : (allow : Bool) (s : Scope) (o : Option Field) (index : Option Name) → first_broken allow (asks_element s o index) ≡ None → is_some o ≡ true
+pub field_is : (allow : Bool) (s : Scope) (o : Option Field) (index : Option Name) → first_broken allow (asks_element s o index) ≡ None → is_some o ≡ true
 field_is allow s None index h = absurd (true≢false (sym (head_met allow (Known false) (asks_index s index) h).0))
 field_is allow s (Some field) index h = refl
 
@@ -77,14 +78,14 @@ lval_stays allow s more (lval.Meta name index) h =
     ap (λ z. of_width (width_among z name)) (meta_fields_stay s.before more name (field_is allow s (meta_field s.before name) index h))
 lval_stays allow s more (lval.Std name) h = refl
 
-pub named_stays : (allow : Bool) (s : Scope) (more : List PlainDecl) (name : Name) → first_broken allow (asks_named s name) ≡ None → named_type (names_at (wider s more)) name ≡ named_type (names_at s) name
+pub named_stays : (allow : Bool) (s : Scope) (more : List PlainDecl) (name : Name) → first_broken allow (asks_named s name) ≡ None → named_type (names_among s more) name ≡ named_type (names_at s) name
 named_stays allow s more name h = by (param_width s.params name) (is_index s name) h
   where
     constant_stays : is_some (declared_constant s.before name) ≡ true → constant_width (s.before ++ more) name ≡ constant_width s.before name
     constant_stays k = ap (λ z. option_map (λ (constant : ℕ × ℕ). constant.0) z) (found_stays (constant_in name) s.before more k)
 
     by : (p : Option ℕ) (b : Bool) → first_broken allow (if is_some p then [] else (if b then Indexed false ∷ [] else Known (is_some (declared_constant s.before name)) ∷ [])) ≡ None
-        → of_width (or_else p (constant_width (s.before ++ more) name)) ≡ of_width (or_else p (constant_width s.before name))
+        → of_width (or_else p (constant_width (s.before ++ more) name)) ≡ of_width (or_else p (if b then None else constant_width s.before name))
     by (Some w) b k = refl
     by None true k = absurd (true≢false (sym (head_met allow (Indexed false) [] k).0))
     by None false k = ap of_width (constant_stays (head_met allow (Known (is_some (declared_constant s.before name))) [] k).0)
@@ -102,7 +103,7 @@ operands allow s op left right giver h =
     let q = parts allow (asks_expr s right (right_giver sort a b)) (asks_sort sort a b) p.1 in
     (p.0, q.0, q.1)
 
-pub type_stays : (allow : Bool) (s : Scope) (more : List PlainDecl) (e : PlainExpr) (giver : Ty) → first_broken allow (asks_expr s e giver) ≡ None → type_of (names_at (wider s more)) e ≡ type_of (names_at s) e
+pub type_stays : (allow : Bool) (s : Scope) (more : List PlainDecl) (e : PlainExpr) (giver : Ty) → first_broken allow (asks_expr s e giver) ≡ None → type_of (names_among s more) e ≡ type_of (names_at s) e
 type_stays allow s more (PlainExpr.Named name) giver h = named_stays allow s more name h
 type_stays allow s more (PlainExpr.At place) giver h = lval_stays allow s more place h
 type_stays allow s more (PlainExpr.Unary op of) giver h =
@@ -113,6 +114,9 @@ type_stays allow s more (PlainExpr.Binary op left right) giver h =
     let a = type_of (names_at s) left in
     let b = type_of (names_at s) right in
     let p = operands allow s op left right giver h in
-    ap (λ z. outcome sort z (type_of (names_at (wider s more)) right)) (type_stays allow s more left (left_giver sort a b) p.0)
+    ap (λ z. outcome sort z (type_of (names_among s more) right)) (type_stays allow s more left (left_giver sort a b) p.0)
     ∙ ap (λ z. outcome sort a z) (type_stays allow s more right (right_giver sort a b) p.1)
+type_stays allow s more (PlainExpr.Slice of high low) giver h =
+    let t = type_of (names_at s) of in
+    ap (part_type high low) (type_stays allow s more of Bare (parts allow (asks_expr s of Bare) (Number t ∷ HasWidth t ∷ Cut high low t ∷ []) h).0)
 type_stays allow s more other giver h = refl

@@ -13,7 +13,7 @@ use Rattle.elastic_ast.specs.Typing.Scope.{or_else, found}
 use Rattle.elastic_ast.specs.Containers.LocationPlaces.{place_of_lval, valid_place}
 use Rattle.elastic_ast.specs.Typing.LookUps.{register_width, action_of, table_of}
 use Rattle.elastic_ast.specs.OperatorSorts.{operator_of, sort_of}
-use Rattle.elastic_ast.specs.Typing.Types.{Ty, Bits, Bare, of_width, outcome, left_giver, right_giver, width_of_type, type_of, type_at, lval_type}
+use Rattle.elastic_ast.specs.Typing.Types.{Ty, Bits, Bare, bits_of, of_width, outcome, left_giver, right_giver, width_of_type, type_of, type_at, lval_type}
 use Rattle.elastic_ast.specs.Meaning.Memory.{Spot, At, Reg, Memory, Writes, written_or, over, and_then, store}
 use Rattle.elastic_ast.specs.Meaning.Values.{Setting, names_of, is_true, apply, turn, count_value, amount_value, value, holds}
 use Rattle.elastic_ast.specs.Meaning.Matches.{Run, in_set, in_sets, run_of, chosen}
@@ -66,7 +66,7 @@ value_depends test (PlainExpr.Binary op left right) w s t giver h a =
     ap₂ (apply (operator_of op) (width_of_type (outcome sort x y)) (width_of_type y))
     (value_depends test left w s t (left_giver sort x y) (within_left test w.index (expr_reads left) (expr_reads right) h) a)
     (value_depends test right w s t (right_giver sort x y) (within_right test w.index (expr_reads left) (expr_reads right) h) a)
-value_depends test (PlainExpr.Cast width of) w s t giver h a = ap (words.cast width) (value_depends test of w s t (Bits width) h a)
+value_depends test (PlainExpr.Cast width of) w s t giver h a = ap (words.cast width) (value_depends test of w s t (bits_of width) h a)
 value_depends test (PlainExpr.Slice of high low) w s t giver h a = ap (words.slice high low) (value_depends test of w s t Bare h a)
 value_depends test (PlainExpr.Hash k of modulus) w s t giver h a =
     ap (λ v. hashed (count_value w k) v (amount_value w modulus)) (value_depends test of w s t Bare h a)
@@ -110,7 +110,7 @@ arguments_depend : (test : Spot → Bool) (ps : List Param) (es : List PlainExpr
 arguments_depend test [] es w s t h a = refl
 arguments_depend test (p ∷ ps) [] w s t h a = refl
 arguments_depend test (p ∷ ps) (e ∷ es) w s t h a =
-    ap₂ (λ v vs. v ∷ vs) (value_depends test e w s t (Bits p.width) (within_left test w.index (expr_reads e) (exprs_read es) h) a)
+    ap₂ (λ v vs. v ∷ vs) (value_depends test e w s t (bits_of p.width) (within_left test w.index (expr_reads e) (exprs_read es) h) a)
     (arguments_depend test ps es w s t (within_right test w.index (expr_reads e) (exprs_read es) h) a)
 
 action_depends : (test : Spot → Bool) (o : Option PlainAction) (es : List PlainExpr) (w : Setting) (s t : Memory) → Within test w.index (exprs_read es) → Within test w.index (action_reads o) → Agree test s t → action_writes w s es o ≡ action_writes w t es o

@@ -1,12 +1,12 @@
 -- More small programs that break one rule of types alone, and typed ones, part by part of the rules; this project's own.
-use Rattle.std.specs.Prelude.{false, [], ◌∷◌, Some, None, codes, replicate}
+use Rattle.std.specs.Prelude.{◌≡◌, false, [], ◌∷◌, Some, None, codes, replicate}
 use Rattle.elastic_ast.specs.declared.rule.Rule.TheVariants.{UnknownName, Twice, Width, NoWidth, LiteralTooWide, NotBool, BadIndex, BadAmount, BadTerm, BadSlice, BadKey, BadEntries, BadCall}
 use Rattle.elastic_ast.specs.declared.statements.Amount.TheVariants as amount
 use Rattle.elastic_ast.specs.declared.statements.Lval.TheVariants as lval
 use Rattle.elastic_ast.specs.declared.declarations.UtilTerm.TheVariants.{Lin, Steps}
 use Rattle.elastic_ast.specs.Tree.{PlainDecl, PlainExpr, PlainStmt, PlainKeyset, PlainLocal, PlainNext}
 use Rattle.elastic_ast.specs.OperatorSorts.{And, Join, Turn, Negate, binary, unary}
-use Rattle.elastic_ast.specs.Typing.Typed.{Typed}
+use Rattle.elastic_ast.specs.Typing.Typed.{Typed, broken_rule, first_of}
 use Rattle.elastic_laws.specs.Examples.WorkedValues.{bare, wide}
 use Rattle.elastic_laws.specs.Examples.WorkedProgram.{x, element, v, r, assign, byte_field, stmts}
 use Rattle.elastic_laws.specs.Examples.WorkedTyping.{frame, byte_and_word, taking_h, doing, with_locals, program_with_register, sized, parsing, state, goes_to, start, accept, y, by_name, set_x, sum, shifted, equal, is_valid, loop_over, plain_action, indexed_action, action_of_n, call, read_r, table_of_v, exact_table, ternary_table, one, constant, steps, BreaksOnly}
@@ -138,3 +138,42 @@ pub record TablesInDetail : Type 0 where
       BreaksOnly (with_locals (action_of_n (codes "one") [] ∷ []) (call (codes "one") (bare 256 ∷ []) ∷ [])) LiteralTooWide 4
   pub argument_is_a_sum :
       Typed false (with_locals (action_of_n (codes "one") [] ∷ []) (call (codes "one") (sum (PlainExpr.At x) (bare 1) ∷ []) ∷ []))
+
+-- What breaks a rule has no known type: it gives no width to what stands beside it, and breaks no other rule.
+pub record FaultsStandAlone : Type 0 where
+  pub index_is_added_to_a_great_number :
+      BreaksOnly (sized [] (loop_over (codes "s") (set_x (sum (bare 300) (by_name (codes "i"))) ∷ []) ∷ [])) BadIndex 6
+  pub index_hides_a_constant_beside_a_great_number :
+      BreaksOnly (frame (PlainDecl.Symbol (codes "s") ∷ constant (codes "i") 8 1 ∷ []) byte_and_word [] taking_h [] (loop_over (codes "s") (set_x (sum (bare 300) (by_name (codes "i"))) ∷ []) ∷ [])) BadIndex 6
+  pub byte_and_index_are_a_word :
+      BreaksOnly (sized [] (loop_over (codes "s") (PlainStmt.Assign y (sum (PlainExpr.At x) (by_name (codes "i"))) ∷ []) ∷ [])) BadIndex 6
+  pub index_and_byte_are_a_word :
+      BreaksOnly (sized [] (loop_over (codes "s") (PlainStmt.Assign y (sum (by_name (codes "i")) (PlainExpr.At x)) ∷ []) ∷ [])) BadIndex 6
+  pub slice_is_turned_round_beside_a_number :
+      BreaksOnly (doing (set_x (sum (bare 1) (PlainExpr.Slice (PlainExpr.At v) 3 4)) ∷ [])) BadSlice 4
+  pub slice_beyond_its_operand_is_assigned :
+      BreaksOnly (doing (PlainStmt.Assign y (PlainExpr.Slice (PlainExpr.At v) 8 0) ∷ [])) BadSlice 4
+  pub number_is_cast_to_no_bits : BreaksOnly (doing (set_x (PlainExpr.Cast 0 (bare 1)) ∷ [])) Width 4
+  pub constant_has_no_bits : BreaksOnly (constant (codes "n") 0 1 ∷ []) Width 0
+  pub parameter_has_no_bits :
+      BreaksOnly (with_locals (PlainLocal.OfAction (record { name = codes "one"; index = None; params = record { name = codes "n"; width = 0 } ∷ []; body = stmts [] }) ∷ []) (call (codes "one") (bare 1 ∷ []) ∷ [])) Width 4
+  pub two_hundred_bits_are_added_to_a_number :
+      BreaksOnly (doing (set_x (sum (bare 300) (binary Join (wide 100 0) (wide 100 0))) ∷ [])) Width 4
+  pub two_widths_are_added_to_a_great_number :
+      BreaksOnly (doing (PlainStmt.Assign y (sum (sum (PlainExpr.At x) (PlainExpr.At y)) (bare 300)) ∷ [])) Width 4
+  pub boolean_and_byte_are_added_to_a_great_number :
+      BreaksOnly (doing (PlainStmt.Assign y (sum (sum (PlainExpr.At x) is_valid) (bare 300)) ∷ [])) NotBool 4
+  pub unknown_name_is_added_to_a_great_number :
+      BreaksOnly (doing (set_x (sum (by_name (codes "n")) (bare 300)) ∷ [])) UnknownName 4
+  pub unknown_field_is_added_to_a_great_number :
+      BreaksOnly (doing (set_x (sum (bare 300) (PlainExpr.At (lval.Meta (codes "z") None))) ∷ [])) UnknownName 4
+  pub unknown_field_is_assigned_to :
+      BreaksOnly (doing (assign (lval.Header (codes "h") (codes "z")) 300 ∷ [])) UnknownName 4
+  pub unknown_name_is_joined :
+      BreaksOnly (doing (PlainStmt.Assign y (binary Join (PlainExpr.At x) (by_name (codes "n"))) ∷ [])) UnknownName 4
+  pub unknown_name_is_a_condition :
+      BreaksOnly (doing (PlainStmt.If (by_name (codes "n")) (stmts []) ∷ [])) UnknownName 4
+  pub unknown_name_is_selected :
+      BreaksOnly (parsing (state start (codes "h" ∷ []) (PlainNext.Select (by_name (codes "n")) ((PlainKeyset.One (bare 300), accept) ∷ [])) ∷ [])) UnknownName 3
+  pub width_of_a_cast_is_asked_first :
+      first_of (broken_rule false) 0 [] (doing (set_x (PlainExpr.Cast 0 (by_name (codes "n"))) ∷ [])) ≡ Some (Width, 4)

@@ -1,0 +1,50 @@
+-- The rule that is broken first by what a `select` or a table compares with, and by the states of a parser; this project's own.
+use Rattle.std.specs.Prelude.{ℕ, Bool, List, ◌∷◌, map, flat_map, Option}
+use Rattle.elastic_ast.specs.declared.rule.Rule.{Rule}
+use Rattle.elastic_ast.specs.declared.statements.Expr.{Expr}
+use Rattle.elastic_ast.specs.declared.declarations.Decl.{Decl}
+use Rattle.elastic_ast.specs.declared.declarations.Keyset.{Keyset}
+use Rattle.elastic_ast.specs.declared.declarations.Next.{Next}
+use Rattle.elastic_ast.specs.declared.declarations.State.{State}
+use Rattle.elastic_ast.specs.Tree.{Name, PlainExpr, PlainState}
+use Rattle.elastic_ast.specs.Seen.{seen_expr, seen_keyset, seen_case, seen_next, seen_state}
+use Rattle.elastic_ast.specs.Typing.Demand.{Number, Keyed, has_width, first_broken}
+use Rattle.elastic_ast.specs.Typing.Asked.{asks_case, asks_next, asks_state}
+use Rattle.elastic_ast.specs.Typing.AskedInLocals.{asks_value, asks_set}
+use Rattle.width_check.specs.declared.types.Ty.{Ty}
+use Rattle.width_check.specs.FirstRules.{each_breaks}
+use Rattle.width_check.specs.Scoped.{before_of}
+use Rattle.width_check.specs.Placed.{seen_type}
+
+abbrev pub seen_states : List State → List PlainState
+seen_states = map seen_state
+
+-- by the name of a constant, a value and a set in a width, behind the first of some declarations
+abbrev pub constant_breaks : Bool → List Decl × ℕ → Name → Ty → Option Rule
+constant_breaks allow place name width = first_broken allow (asks_value (before_of place) (PlainExpr.Named name) (seen_type width))
+
+abbrev pub value_breaks : Bool → List Decl × ℕ → Expr → Ty → Option Rule
+value_breaks allow place value width = first_broken allow (asks_value (before_of place) (seen_expr value) (seen_type width))
+
+abbrev pub set_breaks : Bool → List Decl × ℕ → Ty → Keyset → Option Rule
+set_breaks allow place width set = first_broken allow (asks_set (before_of place) (seen_type width) (seen_keyset set))
+
+-- by the cases of a `select`, by where a state goes, and by states
+abbrev pub cases_break : Bool → List Decl × ℕ → List State → Ty → List (Keyset × Name) → Option Rule
+cases_break allow place states width cases = each_breaks allow (asks_case (before_of place) (seen_states states) (seen_type width)) (map seen_case cases)
+
+abbrev pub options_break : Bool → List Decl × ℕ → List State → Ty → List (Keyset × Name) → Option Rule
+options_break allow place states width cases =
+    first_broken allow (Number (seen_type width) ∷ Keyed (has_width (seen_type width)) ∷ flat_map (asks_case (before_of place) (seen_states states) (seen_type width)) (map seen_case cases))
+
+abbrev pub case_breaks : Bool → List Decl × ℕ → List State → Ty → Keyset × Name → Option Rule
+case_breaks allow place states width case = first_broken allow (asks_case (before_of place) (seen_states states) (seen_type width) (seen_case case))
+
+abbrev pub next_state_breaks : Bool → List Decl × ℕ → List State → Next → Option Rule
+next_state_breaks allow place states next = first_broken allow (asks_next (before_of place) (seen_states states) (seen_next next))
+
+abbrev pub state_breaks : Bool → List Decl × ℕ → List State → State → Option Rule
+state_breaks allow place states state = first_broken allow (asks_state (before_of place) (seen_states states) (seen_state state))
+
+abbrev pub states_break : Bool → List Decl × ℕ → List State → List State → Option Rule
+states_break allow place states each = each_breaks allow (asks_state (before_of place) (seen_states states)) (seen_states each)
