@@ -1,10 +1,11 @@
 -- From points and bounds to the choice of a program.
-use Rattle.std.proofs.Common.{◌≡◌, ℕ, zero, suc, ◌+◌, ◌-◌, ◌/◌, ◌%◌, ◌^◌, ◌<◌, ◌≤◌, List, [], ◌∷◌, length, get_or, Option, Some, refl, sym, ap, ◌∙◌, subst, arith, ℤ, ◌⊎◌, inl, inr}
+use Rattle.std.proofs.Common.{◌≡◌, ℕ, zero, suc, ◌+◌, ◌-◌, ◌/◌, ◌%◌, ◌^◌, ◌<◌, ◌≤◌, false, List, [], ◌∷◌, length, get_or, Option, Some, refl, sym, ap, ◌∙◌, subst, arith, ℤ, ◌⊎◌, inl, inr}
 use Rattle.std.specs.Prelude.{Result, Ok, Err, IfOk, IsSome, ◌≤ℤ◌}
 use Rattle.std.proofs.Math.Nat.{mod-lt, div-eq_of_lt}
 use Rattle.elastic_ast.specs.declared.flat.At.{At}
 use Rattle.elastic_ast.specs.declared.flat.Terms.{Terms}
 use Rattle.elastic_ast.specs.Tree.{PlainDecl}
+use Rattle.elastic_ast.specs.Typing.Asked.{DeclKind, has}
 use Rattle.elastic_ast.specs.Sizes.SizeSums.{symbols_of, utility}
 use Rattle.size_terms.specs.Rows.{worth}
 use Rattle.size_terms.specs.Coefficients.{rows_of}
@@ -17,7 +18,7 @@ use Rattle.dep_graph.specs.Feasible.{Feasible}
 use Rattle.box_listing.specs.Listing.{IsWithin, points_in, point_at, IsOpen}
 use Rattle.box_listing.specs.Picking.{IsPicked}
 use Rattle.box_listing.specs.Choice.{AreTermsOf, IsChoice}
-use Rattle.unroll_bound.specs.ProgramBounds.{AreBoundsOf, IsUnbounded, bound_of}
+use Rattle.unroll_bound.specs.ProgramBounds.{AreBoundsOf, bound_of}
 use Rattle.dep_graph.specs.Optimum.{Best, Infeasible}
 use Rattle.unroll_bound.specs.declared.header.HeaderUse.{HeaderUse}
 use Rattle.box_listing.specs.declared.choosing.Choice.{Choice}
@@ -27,8 +28,9 @@ use Rattle.unroll_bound.proofs.UseLaws.{taken_law}
 use Rattle.unroll_bound.proofs.WithinLaws.{bounds_law}
 use Rattle.box_listing.proofs.ListingLaws.{length_point, numbered}
 
--- what the calls below are given: the bits of a program, its terms and a target whose numbers are small
+-- what the calls below are given: the bits of a program without `main`, its terms and a target whose numbers are small
 pub record Given (decls : List PlainDecl) (terms : Terms) (target : Target) (bits : HeaderUse) : Type 0 where
+  pub no_main : has DeclKind.Main decls ≡ false
   pub use_is : IsUseOf decls bits
   pub terms_are : AreTermsOf decls terms
   pub small : target.header_bits < 2 ^ 64 - 1
@@ -36,14 +38,14 @@ pub record Given (decls : List PlainDecl) (terms : Terms) (target : Target) (bit
 feasible : (decls : List PlainDecl) (terms : Terms) (target : Target) (bits : HeaderUse) → Given decls terms target bits → (sizes : List ℕ) → length sizes ≡ length (symbols_of decls) → IsOpen terms bits target.header_bits sizes → Feasible decls target sizes []
 feasible decls terms target bits given sizes sized good = record {
   sized = sized;
-  assumed = (given.terms_are.assumes sizes).0 good.rows;
+  assumed = (given.terms_are.assumes sizes).0 good.holds;
   placed = refl;
   header = (taken_law decls bits target.header_bits sizes given.use_is given.small).0 good.header;
 }
 
 opened : (decls : List PlainDecl) (terms : Terms) (target : Target) (bits : HeaderUse) → Given decls terms target bits → (sizes : List ℕ) (placement : List At) → Feasible decls target sizes placement → IsOpen terms bits target.header_bits sizes
 opened decls terms target bits given sizes placement good = record {
-  rows = (given.terms_are.assumes sizes).1 good.assumed;
+  holds = (given.terms_are.assumes sizes).1 good.assumed;
   header = (taken_law decls bits target.header_bits sizes given.use_is given.small).1 good.header;
 }
 
@@ -91,14 +93,16 @@ bound_same decls terms target bits given place h =
     ∙ ap (λ z. lesser (bits_bound target.header_bits (get_or bits.symbol_bits.items place 0)) (rows_bound place z)) (sym given.terms_are.rows)
 
 pub unbounded : (decls : List PlainDecl) (terms : Terms) (target : Target) (bits : HeaderUse) (symbol : ℕ) → Given decls terms target bits
-    → AreBounds (length terms.symbols) (bound_at terms.rows (λ place. get_or bits.symbol_bits.items place 0) target.header_bits) (bounds.Missing symbol) → IsUnbounded decls target symbol
+    → AreBounds (length terms.symbols) (bound_at terms.rows (λ place. get_or bits.symbol_bits.items place 0) target.header_bits) (bounds.Missing symbol) → IsChoice decls target (choice.Unbounded symbol)
 unbounded decls terms target bits symbol given are =
-    let within : symbol < length (symbols_of decls) = let e = ap length given.terms_are.symbols in let w = are.0 in omega (arith, e, w) in
-    record {
-      within = within;
-      missing = bound_same decls terms target bits given symbol within ∙ are.1;
-      first = λ place h. subst (λ (z : Option ℕ). IsSome z) (sym (bound_same decls terms target bits given place (omega (arith, within, h)))) (are.2 place h);
-    }
+    let within : symbol < length (symbols_of decls) = let e = ap length given.terms_are.symbols in let w = are.0 in omega (arith, e, w) in (
+      given.no_main,
+      record {
+        within = within;
+        missing = bound_same decls terms target bits given symbol within ∙ are.1;
+        first = λ place h. subst (λ (z : Option ℕ). IsSome z) (sym (bound_same decls terms target bits given place (omega (arith, within, h)))) (are.2 place h);
+      },
+    )
 
 bounds_are : (decls : List PlainDecl) (terms : Terms) (target : Target) (bits : HeaderUse) (found : List ℕ) → Given decls terms target bits → length found ≡ length terms.symbols
     → ((place : ℕ) → place < length terms.symbols → bound_at terms.rows (λ place. get_or bits.symbol_bits.items place 0) target.header_bits place ≡ Some (get_or found place 0)) → AreBoundsOf decls target found
@@ -143,10 +147,10 @@ picked_is decls terms target bits found (choice.Best sizes most) given are picke
       },
       value,
     ) in
-    (record { bounds = found; are_bounds = are; listable = picked.0 }, chosen.0, chosen.1)
-picked_is decls terms target bits found choice.Infeasible given are picked = (record { bounds = found; are_bounds = are; listable = picked.0 }, none_of_all decls terms target bits found given are picked.1)
+    (record { no_main = given.no_main; bounds = found; are_bounds = are; listable = picked.0 }, chosen.0, chosen.1)
+picked_is decls terms target bits found choice.Infeasible given are picked = (record { no_main = given.no_main; bounds = found; are_bounds = are; listable = picked.0 }, none_of_all decls terms target bits found given are picked.1)
 picked_is decls terms target bits found (choice.Unbounded symbol) given are picked = absurd picked
-picked_is decls terms target bits found choice.TooMany given are picked = record { bounds = found; are_bounds = are; many = picked }
+picked_is decls terms target bits found choice.NotYet given are picked = inr record { no_main = given.no_main; bounds = found; are_bounds = are; many = picked }
 
 pub chosen : (decls : List PlainDecl) (terms : Terms) (target : Target) (bits : HeaderUse) (found : List ℕ) {E : Type 0} (result : Result Choice E) → Given decls terms target bits → length found ≡ length terms.symbols
     → ((place : ℕ) → place < length terms.symbols → bound_at terms.rows (λ place. get_or bits.symbol_bits.items place 0) target.header_bits place ≡ Some (get_or found place 0))

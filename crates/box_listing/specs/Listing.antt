@@ -1,7 +1,7 @@
 -- The points of a box of sizes by their numbers, and the best of them; this project's own.
 use Rattle.std.specs.Prelude.{◌≡◌, ℕ, ◌+◌, ◌*◌, ◌/◌, ◌%◌, ◌<◌, ◌≤◌, List, [], ◌∷◌, Option, Some, None, ℤ, ◌≤ℤ◌, int_lt, if◌then◌else◌}
 use Rattle.elastic_ast.specs.declared.flat.Terms.{Terms}
-use Rattle.size_terms.specs.Rows.{RowsHold, worth}
+use Rattle.size_terms.specs.Rows.{TermsHold, worth}
 use Rattle.unroll_bound.specs.HeaderUse.{bits_taken}
 use Rattle.unroll_bound.specs.declared.header.HeaderUse.{HeaderUse}
 
@@ -26,9 +26,9 @@ abbrev pub point_at : ℕ → List ℕ → List ℕ
 point_at number [] = []
 point_at number (bound ∷ bounds) = (number % (bound + 1)) ∷ point_at (number / (bound + 1)) bounds
 
--- every row holds at these sizes, and the metadata is within the header bits
+-- the terms hold at these sizes, and the program is within the header bits
 pub record IsOpen (terms : Terms) (bits : HeaderUse) (limit : ℕ) (sizes : List ℕ) : Type 0 where
-  pub rows : RowsHold terms.rows sizes
+  pub holds : TermsHold terms sizes
   pub header : bits_taken bits sizes ≤ limit
 
 -- a point is worth a number if it is open, and nothing else

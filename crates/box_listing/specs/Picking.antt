@@ -11,4 +11,4 @@ abbrev pub IsPicked : Terms → HeaderUse → ℕ → List ℕ → Choice → Ty
 IsPicked terms bits limit bounds (choice.Best sizes worth) = (points_in bounds ≤ most_points) × ((number : ℕ) × (sizes.values ≡ point_at number bounds) × IsBestAt terms bits limit bounds (points_in bounds) number worth)
 IsPicked terms bits limit bounds choice.Infeasible = (points_in bounds ≤ most_points) × ((number : ℕ) → number < points_in bounds → IsOpen terms bits limit (point_at number bounds) → ⊥)
 IsPicked terms bits limit bounds (choice.Unbounded symbol) = ⊥
-IsPicked terms bits limit bounds choice.TooMany = most_points < points_in bounds
+IsPicked terms bits limit bounds choice.NotYet = most_points < points_in bounds

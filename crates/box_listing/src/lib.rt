@@ -1,5 +1,5 @@
 //! The best sizes within bounds, by listing every point of the box. It stands in for the search by integer programs, and is
-//! used where at most a million sizes are within the bounds.
+//! used for a program without `main` where at most a million sizes are within the bounds.
 #![tactic(auto)]
 
 mod choosing;

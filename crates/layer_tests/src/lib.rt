@@ -3,7 +3,19 @@
 #![tactic(auto)]
 
 #[cfg(test)]
+mod action_rules;
+#[cfg(test)]
+mod declaration_rules;
+#[cfg(test)]
+mod expression_rules;
+#[cfg(test)]
 mod integer_programs;
+#[cfg(test)]
+mod parser_rules;
+#[cfg(test)]
+mod pipelines;
+#[cfg(test)]
+mod register_rules;
 #[cfg(test)]
 mod registers;
 #[cfg(test)]
@@ -11,6 +23,10 @@ mod rules;
 #[cfg(test)]
 mod sources;
 #[cfg(test)]
+mod table_rules;
+#[cfg(test)]
 mod terms;
+#[cfg(test)]
+mod typed_sources;
 #[cfg(test)]
 mod vectors;

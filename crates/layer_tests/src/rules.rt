@@ -150,7 +150,7 @@ const STEP_TABLES: [Broken; 7] = [
     ),
 ];
 
-const FIRST_OF_SEVERAL: [Broken; 4] = [
+const FIRST_OF_SEVERAL: [Broken; 5] = [
     (
         "the first of two declarations",
         "symbolic int rows; assume(1000000001 >= 1); symbolic int rows;",
@@ -170,10 +170,16 @@ const FIRST_OF_SEVERAL: [Broken; 4] = [
         0,
     ),
     (
-        "a declaration before one of another form",
+        "a declaration before an include",
         "symbolic int main; #include <core.p4>",
         Rule::Twice,
         0,
+    ),
+    (
+        "a declaration behind an include",
+        "symbolic int rows; #include <core.p4> symbolic int rows;",
+        Rule::Twice,
+        2,
     ),
 ];
 
@@ -232,10 +238,11 @@ fn at_most_64_terms_are_taken(rt: HostRuntime) -> Result<(), Fail> {
 }
 
 /// What is right, the text, and whether names with two underscores are allowed.
-const TAKEN: [(&str, &str, bool); 8] = [
+const TAKEN: [(&str, &str, bool); 9] = [
     ("no declaration", "", false),
+    ("an include", "#include <core.p4>", false),
     (
-        "each form of declaration",
+        "symbols, assume clauses, the metadata and a utility",
         "symbolic int rows; symbolic int cols; assume(rows >= 1); assume(3 * cols >= 1); \
         struct meta_t { bit<1> a; bit<128>[rows] b; } maximize(10 * rows);",
         false,
@@ -274,18 +281,6 @@ fn programs_within_the_rules_are_taken(rt: HostRuntime) -> Result<(), Fail> {
         let taken = checked(rt.alloc(), text, allow_reserved)??;
         let declared = spelled(rt.alloc(), text)?.decls.as_slice().len();
         assert_eq!(rt; program(&taken).decls.as_slice().len(), declared, "{what}");
-    }
-    Ok(())
-}
-
-#[test]
-fn other_forms_are_not_taken_yet(rt: HostRuntime) -> Result<(), Fail> {
-    for text in [
-        "#include <core.p4>",
-        "symbolic int rows; #include <core.p4> symbolic int rows;",
-    ] {
-        let refusal = checked(rt.alloc(), text, true)?.err();
-        assert_eq!(rt; refusal, Some(CheckError::NotYet), "{text}");
     }
     Ok(())
 }

@@ -38,23 +38,24 @@ answer_is decls on choice.Infeasible outcome chosen shows source target text des
     subst (λ (z : Status). Answer (Size source target) (text ∷ description ∷ []) z [] outcome.lines) (sym shows.0)
     (refl, record { decls = decls; on = on; taken = taken; bounded = chosen.0; none = chosen.1; line = shows.1 })
 answer_is decls on (choice.Unbounded symbol) outcome chosen shows source target text description taken =
-    let name = there (symbols_of decls) symbol chosen.within in
+    let name = there (symbols_of decls) symbol chosen.1.within in
     subst (λ (z : Status). Answer (Size source target) (text ∷ description ∷ []) z [] outcome.lines) (sym shows.0) (
       refl,
       inr (inr (inl record {
         decls = decls;
         on = on;
         taken = taken;
+        no_main = chosen.0;
         place = symbol;
-        unbounded = chosen;
+        unbounded = chosen.1;
         symbol = name.0;
         named = name.1;
         line = subst (λ (z : Option Name). IfSome z (λ name. outcome.lines ≡ unbounded_text name)) name.1 shows.1;
       })),
     )
-answer_is decls on choice.TooMany outcome chosen shows source target text description taken =
+answer_is decls on choice.NotYet outcome chosen shows source target text description taken =
     subst (λ (z : Status). Answer (Size source target) (text ∷ description ∷ []) z [] outcome.lines) (sym shows.0)
-    (refl, inr (inr (inr record { decls = decls; on = on; taken = taken; many = chosen; line = shows.1 })))
+    (refl, inr (inr (inr record { decls = decls; on = on; taken = taken; cause = chosen; line = shows.1 })))
 
 -- and so where there is memory for it
 pub answer_found : (decls : PlainProgram) (on : Target) (symbols : List Name) (made : Choice) {E : Type 0} (result : Result Outcome E) → symbols ≡ symbols_of decls → IsChoice decls on made → IfOk result (ShowsChoice symbols made)

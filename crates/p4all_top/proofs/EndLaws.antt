@@ -1,5 +1,5 @@
 -- How a run must end, from what it answers: no two causes stand together.
-use Rattle.std.proofs.Common.{◌≡◌, ℕ, ◌<◌, ◌≤◌, List, [], ◌∷◌, length, get_or, Option, Some, None, refl, sym, ap, ◌∙◌, subst, arith, inl, inr, rules}
+use Rattle.std.proofs.Common.{◌≡◌, ℕ, ◌<◌, ◌≤◌, List, [], ◌∷◌, length, get_or, Option, Some, None, refl, sym, ap, ◌∙◌, subst, true≢false, arith, inl, inr, rules}
 use Rattle.std.proofs.lemmas.Grind.{same_number_lists}
 use Rattle.elastic_ast.specs.Tree.{PlainProgram}
 use Rattle.elastic_ast.specs.Sizes.SizeSums.{symbols_of}
@@ -12,7 +12,7 @@ use Rattle.p4all_top.specs.declared.parsing.Refusal.TheVariants as refusal
 use Rattle.p4all_top.specs.declared.status.Status.{Status}
 use Rattle.p4all_top.specs.declared.status.Status.TheVariants as status
 use Rattle.p4all_top.specs.Answer.{Answer, AreTaken}
-use Rattle.box_listing.specs.Choice.{IsBounded, IsTooLarge}
+use Rattle.box_listing.specs.Choice.{IsBounded, IsNotYet}
 use Rattle.unroll_bound.specs.ProgramBounds.{bound_of, AreBoundsOf, IsUnbounded}
 use Rattle.p4all_top.specs.Command.{Size}
 use Rattle.p4all_top.specs.Description.{IsDescription, IsNoDescription, IsTargetRefused}
@@ -40,8 +40,9 @@ never_missing decls on bounds place a u = missing (bound_of decls on place) (get
     missing : (o : Option ℕ) (x : ℕ) → o ≡ Some x → o ≡ None → ⊥
     missing o x e f = cc
 
-never_both : (decls : PlainProgram) (on : Target) → IsBounded decls on → IsTooLarge decls on → ⊥
-never_both decls on few many =
+never_both : (decls : PlainProgram) (on : Target) → IsBounded decls on → IsNotYet decls on → ⊥
+never_both decls on few (inl main) = absurd (true≢false (sym main ∙ few.no_main))
+never_both decls on few (inr many) =
     let e : points_in few.bounds ≡ points_in many.bounds = ap points_in (one_bounds decls on few.bounds many.bounds few.are_bounds many.are_bounds) in
     let listable = few.listable in
     let large = many.many in
@@ -50,34 +51,34 @@ never_both decls on few many =
 -- how a run ends that answers a program on a target
 answers_best : (decls : PlainProgram) (on : Target) → IsBounded decls on → (sizes : List ℕ) → Feasible decls on sizes [] → EndsOn decls on status.Done
 answers_best decls on bounded sizes feasible = record {
-  unbounded = λ place u. absurd (never_missing decls on bounded.bounds place bounded.are_bounds u);
-  too_large = λ many. absurd (never_both decls on bounded many);
+  unbounded = λ _ place u. absurd (never_missing decls on bounded.bounds place bounded.are_bounds u);
+  not_yet = λ cause. absurd (never_both decls on bounded cause);
   best = λ _ sizes placement good. refl;
   none = λ _ infeasible. absurd (infeasible sizes [] feasible);
 }
 
 answers_infeasible : (decls : PlainProgram) (on : Target) → IsBounded decls on → Infeasible decls on → EndsOn decls on status.Infeasible
 answers_infeasible decls on bounded none = record {
-  unbounded = λ place u. absurd (never_missing decls on bounded.bounds place bounded.are_bounds u);
-  too_large = λ many. absurd (never_both decls on bounded many);
+  unbounded = λ _ place u. absurd (never_missing decls on bounded.bounds place bounded.are_bounds u);
+  not_yet = λ cause. absurd (never_both decls on bounded cause);
   best = λ _ sizes placement good. absurd (none sizes placement good);
   none = λ _ infeasible. refl;
 }
 
 answers_unbounded : (decls : PlainProgram) (on : Target) (place : ℕ) → IsUnbounded decls on place → EndsOn decls on status.Refused
 answers_unbounded decls on place unbounded = record {
-  unbounded = λ place u. refl;
-  too_large = λ many. refl;
+  unbounded = λ _ place u. refl;
+  not_yet = λ cause. refl;
   best = λ bounded sizes placement good. absurd (never_missing decls on bounded.bounds place bounded.are_bounds unbounded);
   none = λ bounded infeasible. absurd (never_missing decls on bounded.bounds place bounded.are_bounds unbounded);
 }
 
-answers_too_large : (decls : PlainProgram) (on : Target) → IsTooLarge decls on → EndsOn decls on status.Refused
-answers_too_large decls on many = record {
-  unbounded = λ place u. refl;
-  too_large = λ many. refl;
-  best = λ bounded sizes placement good. absurd (never_both decls on bounded many);
-  none = λ bounded infeasible. absurd (never_both decls on bounded many);
+answers_not_yet : (decls : PlainProgram) (on : Target) → IsNotYet decls on → EndsOn decls on status.Refused
+answers_not_yet decls on cause = record {
+  unbounded = λ _ place u. refl;
+  not_yet = λ cause. refl;
+  best = λ bounded sizes placement good. absurd (never_both decls on bounded cause);
+  none = λ bounded infeasible. absurd (never_both decls on bounded cause);
 }
 
 one_target : (text : List ℕ) (one other : Target) → IsTargetText text one → IsTargetText text other → one ≡ other
@@ -127,7 +128,7 @@ ends_by source target text description status.Refused set printed (_, inr (inl a
   both = λ decls on short program described. absurd (no_target description on described (refused_target description a.why a.cause));
 }
 ends_by source target text description status.Refused set printed (_, inr (inr (inl a))) = ends_both text description a.decls a.on status.Refused a.taken (answers_unbounded a.decls a.on a.place a.unbounded)
-ends_by source target text description status.Refused set printed (_, inr (inr (inr a))) = ends_both text description a.decls a.on status.Refused a.taken (answers_too_large a.decls a.on a.many)
+ends_by source target text description status.Refused set printed (_, inr (inr (inr a))) = ends_both text description a.decls a.on status.Refused a.taken (answers_not_yet a.decls a.on a.cause)
 ends_by source target text description _ set printed a = absurd a
 
 -- a run that was stopped may be one of any source and description
@@ -136,8 +137,8 @@ may_stop source target ended stopped = record {
   no_source = λ bad. any status.Refused ended stopped;
   no_target = λ bad. any status.Refused ended stopped;
   both = λ decls on short program described. record {
-    unbounded = λ place u. any status.Refused ended stopped;
-    too_large = λ many. any status.Refused ended stopped;
+    unbounded = λ _ place u. any status.Refused ended stopped;
+    not_yet = λ cause. any status.Refused ended stopped;
     best = λ bounded sizes placement feasible. any status.Done ended stopped;
     none = λ bounded infeasible. any status.Infeasible ended stopped;
   };

@@ -5,18 +5,13 @@ use Rattle.spelling.specs.Words.{word_of}
 use Rattle.p4_parser.proofs.FewDeclarations.{few_declarations}
 use Rattle.width_check.specs.Sound.{most_declarations}
 use Rattle.p4all_top.specs.Limits.{most_source}
-use Rattle.std.proofs.Common.{◌≡◌, ℕ, ◌≤◌, true, false, List, [], ◌∷◌, length, Some, refl, sym, ap, ◌∙◌, subst, true≢false, arith, inl, inr}
-use Rattle.std.specs.Prelude.{Result, Ok, Err, All}
-use Rattle.std.specs.List.{list_all}
-use Rattle.std.proofs.lemmas.Bool.{and_parts}
-use Rattle.std.proofs.lemmas.List.Elements.{All-nil, All-cons, All-get_or}
-use Rattle.std.proofs.lemmas.Option.{get_or_from_slice_get, slice_get_within}
+use Rattle.std.proofs.Common.{◌≡◌, ℕ, ◌≤◌, false, List, length, Some, refl, sym, ap, ◌∙◌, subst, arith, inl, inr}
+use Rattle.std.specs.Prelude.{Result, Ok, Err}
 use Rattle.elastic_ast.specs.declared.declarations.Decl.{Decl}
 use Rattle.elastic_ast.specs.declared.declarations.Program.{Program}
 use Rattle.elastic_ast.specs.Seen.{seen_decls, seen_program}
-use Rattle.elastic_ast.specs.Tree.{PlainDecl, PlainProgram}
+use Rattle.elastic_ast.specs.Tree.{PlainProgram}
 use Rattle.elastic_ast.specs.Typing.Typed.{Typed}
-use Rattle.elastic_ast.proofs.Typing.TypedLaws.{walk_names}
 use Rattle.p4_lexer.specs.declared.token.Token.{Token}
 use Rattle.p4_lexer.specs.Tokens.{TokensOf}
 use Rattle.p4_lexer.proofs.OneReading.{one_list, bad_has_none}
@@ -31,8 +26,8 @@ use Rattle.spelling.specs.Reading.{IsReadWithin, NamesAtMost}
 use Rattle.spelling.specs.Words.{words}
 use Rattle.width_check.specs.declared.checking.CheckError.{CheckError}
 use Rattle.width_check.specs.declared.checking.CheckError.TheVariants as checked
-use Rattle.width_check.specs.Supported.{is_supported}
-use Rattle.width_check.specs.Broken.{BreaksFirst, OtherFirst, IsBroken}
+use Rattle.width_check.specs.Broken.{BreaksFirst, IsBroken}
+use Rattle.width_check.proofs.BrokenLaws.{breaks_of}
 use Rattle.p4all_top.specs.declared.parsing.Refusal.{Refusal}
 use Rattle.p4all_top.specs.declared.parsing.Refusal.TheVariants as refusal
 use Rattle.p4all_top.specs.Refusing.{parser_refusal, check_refusal}
@@ -109,35 +104,19 @@ pub refused_program : (text : List ℕ) (tokens given : List Token) (tree : Prog
 refused_program text tokens given tree (checked.Broken found) why read broken is =
     let same : refusal.Rule found.rule found.decl ≡ why = cc in
     subst (λ (z : Refusal). IsRefusedBy text z) same (spells_one (λ program. BreaksFirst false program found.rule found.decl) text tokens given tree read broken)
-refused_program text tokens given tree checked.NotYet why read broken is =
-    let same : refusal.NotYet ≡ why = cc in
-    subst (λ (z : Refusal). IsRefusedBy text z) same (spells_one (OtherFirst false) text tokens given tree read broken)
 refused_program text tokens given tree checked.Memory why read broken is = absurd (cc is)
 
-all_supported : (decls : List PlainDecl) → list_all is_supported decls ≡ true → All (λ decl. is_supported decl ≡ true) decls
-all_supported [] h = All-nil (λ decl. is_supported decl ≡ true)
-all_supported (decl ∷ decls) h = let both = and_parts (is_supported decl) (list_all is_supported decls) h in All-cons (λ decl. is_supported decl ≡ true) decl decls both.0 (all_supported decls both.1)
-
 -- where it is
-pub only_program : (text : List ℕ) (tokens given : List Token) (tree : Program) (taken : List Decl) → IsParsed text tokens given tree → taken ≡ tree.decls → Typed false (seen_program tree) → list_all is_supported (seen_decls taken) ≡ true
+pub only_program : (text : List ℕ) (tokens given : List Token) (tree : Program) (taken : List Decl) → IsParsed text tokens given tree → taken ≡ tree.decls → Typed false (seen_program tree)
     → IsOnlyProgram text (seen_decls taken)
-only_program text tokens given tree taken read same typed supported =
+only_program text tokens given tree taken read same typed =
     subst (λ (z : List Decl). IsOnlyProgram text (seen_decls z)) (sym same) record {
       program = record {
         spelled = program_is text tokens given tree read;
-        supported = all_supported (seen_program tree) (ap (λ (z : List Decl). list_all is_supported (seen_decls z)) (sym same) ∙ supported);
         typed = typed;
       };
       only = λ other program. same_tree text tokens given tree other read program.spelled;
     }
-
--- a program without other declarations has none
-no_other : (decls : List PlainDecl) → All (λ decl. is_supported decl ≡ true) decls → OtherFirst false decls → ⊥
-no_other decls supported o =
-    let is : is_supported o.decl ≡ true =
-    subst (λ (z : PlainDecl). is_supported z ≡ true) (get_or_from_slice_get decls o.number o.decl o.decl o.here)
-    (All-get_or (λ decl. is_supported decl ≡ true) decls o.number o.decl (slice_get_within decls o.number o.decl o.here) supported) in
-    true≢false (sym is ∙ o.other)
 
 -- a text that is refused has no program
 pub refused_has_none : (text : List ℕ) (why : Refusal) → IsRefusedBy text why → HasNoProgram text
@@ -147,9 +126,7 @@ refused_has_none text (refusal.Comment at) bad decls program = bad_has_none text
 refused_has_none text (refusal.Syntax token) bad decls program = bad.none most_brackets decls (spelled_by text bad.tokens bad.tokens decls bad.tokens_are refl program.spelled)
 refused_has_none text (refusal.Deep token) bad decls program = bad.none decls program.spelled
 refused_has_none text (refusal.Rule rule decl) bad decls program =
-    subst (λ (z : PlainProgram). Typed false z) (bad.only decls program.spelled) program.typed rule decl (walk_names false bad.program rule decl bad.holds.first)
-refused_has_none text refusal.NotYet bad decls program =
-    no_other bad.program (subst (λ (z : PlainProgram). All (λ decl. is_supported decl ≡ true) z) (bad.only decls program.spelled) program.supported) bad.holds
+    subst (λ (z : PlainProgram). Typed false z) (bad.only decls program.spelled) program.typed rule decl (breaks_of false bad.program rule decl bad.holds)
 refused_has_none text _ bad decls program = bad
 
 -- a source that is refused isn't taken
@@ -161,5 +138,4 @@ refused_source text (refusal.Comment at) bad = inr (refused_has_none text (refus
 refused_source text (refusal.Syntax token) bad = inr (refused_has_none text (refusal.Syntax token) bad.1)
 refused_source text (refusal.Deep token) bad = inr (refused_has_none text (refusal.Deep token) bad.1)
 refused_source text (refusal.Rule rule decl) bad = inr (refused_has_none text (refusal.Rule rule decl) bad.1)
-refused_source text refusal.NotYet bad = inr (refused_has_none text refusal.NotYet bad.1)
 refused_source text _ bad = absurd bad.1

@@ -1,13 +1,14 @@
 -- The answer of each command: for what the files that it reads hold, the status that it ends with, the files that it sets
 -- and the text that it prints, with the cause; this project's own.
-use Rattle.std.specs.Prelude.{◌≡◌, ◌⊎◌, ℕ, List, [], ◌∷◌, slice_get, Some}
+use Rattle.std.specs.Prelude.{◌≡◌, ◌⊎◌, ℕ, List, [], ◌∷◌, false, slice_get, Some}
 use Rattle.elastic_ast.specs.Tree.{Name, PlainProgram}
+use Rattle.elastic_ast.specs.Typing.Asked.{DeclKind, has}
 use Rattle.elastic_ast.specs.Sizes.SizeSums.{symbols_of, utility}
 use Rattle.target_desc.specs.declared.target.Target.{Target}
 use Rattle.p4all_top.specs.declared.parsing.Refusal.{Refusal}
 use Rattle.p4all_top.specs.declared.status.Status.{Status}
 use Rattle.p4all_top.specs.declared.status.Status.TheVariants as status
-use Rattle.box_listing.specs.Choice.{IsBounded, IsTooLarge}
+use Rattle.box_listing.specs.Choice.{IsBounded, IsNotYet}
 use Rattle.unroll_bound.specs.ProgramBounds.{IsUnbounded}
 use Rattle.p4all_top.specs.Command.{Command, Size}
 use Rattle.p4all_top.specs.Description.{IsDescription, IsTargetRefused}
@@ -39,23 +40,24 @@ pub record PrintsInfeasible (source target printed : List ℕ) : Type 0 where
   pub none : Infeasible decls on
   pub line : printed ≡ infeasible_text
 
--- unbounded: the line names the first symbol that has no bound
+-- unbounded: the program declares no `main`, and the line names the first symbol that has no bound
 pub record RefusesUnbounded (source target printed : List ℕ) : Type 0 where
   pub decls : PlainProgram
   pub on : Target
   pub taken : AreTaken source target decls on
+  pub no_main : has DeclKind.Main decls ≡ false
   pub place : ℕ
   pub unbounded : IsUnbounded decls on place
   pub symbol : Name
   pub named : slice_get (symbols_of decls) place ≡ Some symbol
   pub line : printed ≡ unbounded_text symbol
 
--- too large: the line gives up, since too many sizes are within the bounds
-pub record RefusesTooLarge (source target printed : List ℕ) : Type 0 where
+-- not yet: the line gives up, since what is chosen isn't built yet
+pub record RefusesNotYet (source target printed : List ℕ) : Type 0 where
   pub decls : PlainProgram
   pub on : Target
   pub taken : AreTaken source target decls on
-  pub many : IsTooLarge decls on
+  pub cause : IsNotYet decls on
   pub line : printed ≡ notyet_text
 
 -- the line refuses the source, which isn't taken for this cause
@@ -78,5 +80,5 @@ Answer (Size _ _) (source ∷ target ∷ []) status.Done set printed = (set ≡ 
 Answer (Size _ _) (source ∷ target ∷ []) status.Infeasible set printed = (set ≡ []) × PrintsInfeasible source target printed
 Answer (Size _ _) (source ∷ target ∷ []) status.Refused set printed =
     (set ≡ [])
-    × (RefusesSource source printed ⊎ RefusesTarget source target printed ⊎ RefusesUnbounded source target printed ⊎ RefusesTooLarge source target printed)
+    × (RefusesSource source printed ⊎ RefusesTarget source target printed ⊎ RefusesUnbounded source target printed ⊎ RefusesNotYet source target printed)
 Answer (Size _ _) _ _ set printed = ⊥

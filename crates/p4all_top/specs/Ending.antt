@@ -1,12 +1,13 @@
 -- How a run of a command must end, by what the files that it reads hold, unless want of memory or a fault ends it; this
 -- project's own.
-use Rattle.std.specs.Prelude.{◌≡◌, ◌≤◌, ℕ, List, [], ◌∷◌, length}
+use Rattle.std.specs.Prelude.{◌≡◌, ◌≤◌, ℕ, false, List, [], ◌∷◌, length}
 use Rattle.elastic_ast.specs.declared.flat.At.{At}
 use Rattle.elastic_ast.specs.Tree.{PlainProgram}
+use Rattle.elastic_ast.specs.Typing.Asked.{DeclKind, has}
 use Rattle.target_desc.specs.declared.target.Target.{Target}
 use Rattle.p4all_top.specs.declared.status.Status.{Status}
 use Rattle.p4all_top.specs.declared.status.Status.TheVariants as status
-use Rattle.box_listing.specs.Choice.{IsBounded, IsTooLarge}
+use Rattle.box_listing.specs.Choice.{IsBounded, IsNotYet}
 use Rattle.unroll_bound.specs.ProgramBounds.{IsUnbounded}
 use Rattle.p4all_top.specs.Command.{Command, Size}
 use Rattle.p4all_top.specs.Description.{IsDescription, IsNoDescription}
@@ -21,10 +22,10 @@ MustEnd expected status.Memory = Unit {0}
 MustEnd expected status.Fault = Unit {0}
 MustEnd expected ended = ended ≡ expected
 
--- what a program and a target make of the end
+-- what a program and a target make of the end. Of a program that declares `main` nothing is chosen yet
 pub record EndsOn (decls : PlainProgram) (on : Target) (ended : Status) : Type 0 where
-  pub unbounded : (place : ℕ) → IsUnbounded decls on place → MustEnd status.Refused ended
-  pub too_large : IsTooLarge decls on → MustEnd status.Refused ended
+  pub not_yet : IsNotYet decls on → MustEnd status.Refused ended
+  pub unbounded : has DeclKind.Main decls ≡ false → (place : ℕ) → IsUnbounded decls on place → MustEnd status.Refused ended
   pub best : IsBounded decls on → (sizes : List ℕ) (placement : List At) → Feasible decls on sizes placement → MustEnd status.Done ended
   pub none : IsBounded decls on → Infeasible decls on → MustEnd status.Infeasible ended
 

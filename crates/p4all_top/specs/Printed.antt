@@ -44,6 +44,7 @@ refused_text why named = with_end (begun_cause why named)
 abbrev pub unbounded_text : List ℕ → List ℕ
 unbounded_text symbol = refused_text (codes "unbounded") symbol
 
+-- the line that gives up where what is chosen isn't built yet
 abbrev pub notyet_text : List ℕ
 notyet_text = with_end (begun_refusal (codes "notyet"))
 
@@ -77,4 +78,3 @@ refusal_text refusal.Toml = refused_text (codes "target") (codes "toml")
 refusal_text refusal.UnknownKey = refused_text (codes "target") (codes "unknown")
 refusal_text (refusal.MissingKey key) = target_text (codes "missing") key
 refusal_text (refusal.OutOfRange key) = target_text (codes "range") key
-refusal_text refusal.NotYet = notyet_text

@@ -25,7 +25,6 @@ parser_refusal parsed.Memory = None
 
 abbrev pub check_refusal : CheckError → Option Refusal
 check_refusal (checked.Broken broken) = Some (refusal.Rule broken.rule broken.decl)
-check_refusal checked.NotYet = Some refusal.NotYet
 check_refusal checked.Memory = None
 
 abbrev pub target_refusal : TargetError → Option Refusal

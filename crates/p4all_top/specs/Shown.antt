@@ -16,13 +16,13 @@ abbrev pub FitsSymbols : ℕ → Choice → Type 0
 FitsSymbols symbols (choice.Best sizes value) = length sizes.values ≡ symbols
 FitsSymbols symbols choice.Infeasible = Unit {0}
 FitsSymbols symbols (choice.Unbounded symbol) = symbol < symbols
-FitsSymbols symbols choice.TooMany = Unit {0}
+FitsSymbols symbols choice.NotYet = Unit {0}
 
 abbrev pub ShowsChoice : List (List ℕ) → Choice → Outcome → Type 0
 ShowsChoice symbols (choice.Best sizes value) outcome = (outcome.status ≡ status.Done) × (outcome.lines ≡ sizes_text symbols sizes.values value)
 ShowsChoice symbols choice.Infeasible outcome = (outcome.status ≡ status.Infeasible) × (outcome.lines ≡ infeasible_text)
 ShowsChoice symbols (choice.Unbounded symbol) outcome = (outcome.status ≡ status.Refused) × IfSome (slice_get symbols symbol) (λ name. outcome.lines ≡ unbounded_text name)
-ShowsChoice symbols choice.TooMany outcome = (outcome.status ≡ status.Refused) × (outcome.lines ≡ notyet_text)
+ShowsChoice symbols choice.NotYet outcome = (outcome.status ≡ status.Refused) × (outcome.lines ≡ notyet_text)
 
 -- what is shown for a program on a target answers `size` for each source and description that lead to them
 abbrev pub IsAnswerFor : PlainProgram → Target → Status → List ℕ → Type 0

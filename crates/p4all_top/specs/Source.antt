@@ -1,6 +1,6 @@
--- The program that a text spells: by its tokens, within the numbers of brackets and operators that the language allows, of the
--- declarations that are taken so far, and typed. Which texts are taken as sources, and why others aren't; this project's own.
-use Rattle.std.specs.Prelude.{◌≡◌, ◌<◌, ◌≤◌, ◌⊎◌, ℕ, List, length, All, true, false, Result, Ok, Err}
+-- The typed program that a text spells: by its tokens, within the numbers of brackets and operators that the language
+-- allows. Which texts are taken as sources, and why others aren't; this project's own.
+use Rattle.std.specs.Prelude.{◌≡◌, ◌<◌, ◌≤◌, ◌⊎◌, ℕ, List, length, false, Result, Ok, Err}
 use Rattle.elastic_ast.specs.declared.declarations.Decl.{Decl}
 use Rattle.elastic_ast.specs.Seen.{seen_decls}
 use Rattle.elastic_ast.specs.Tree.{PlainProgram}
@@ -14,17 +14,14 @@ use Rattle.p4_parser.specs.ProgramOf.{IsProgramOf, most_brackets}
 use Rattle.p4_parser.specs.Reaching.{ProgramPassed}
 use Rattle.spelling.specs.Bounds.{PassedAt}
 use Rattle.spelling.specs.Words.{words}
-use Rattle.width_check.specs.Broken.{BreaksFirst, OtherFirst}
-use Rattle.width_check.specs.Supported.{is_supported}
+use Rattle.width_check.specs.Broken.{BreaksFirst}
 use Rattle.p4all_top.specs.Limits.{IsTaken, most_source}
 use Rattle.p4all_top.specs.declared.parsing.Refusal.{Refusal}
 use Rattle.p4all_top.specs.declared.parsing.Refusal.TheVariants as refusal
 
--- the text spells this program, which has no declarations but symbols, assume clauses, a linear utility and the metadata, and
--- it is typed
+-- the text spells this program, and it is typed
 pub record IsProgram (text : List ℕ) (decls : PlainProgram) : Type 0 where
   pub spelled : IsProgramOf text decls
-  pub supported : All (λ decl. is_supported decl ≡ true) decls
   pub typed : Typed false decls
 
 -- the text spells this typed program, and no other
@@ -32,7 +29,7 @@ pub record IsOnlyProgram (text : List ℕ) (decls : PlainProgram) : Type 0 where
   pub program : IsProgram text decls
   pub only : (other : PlainProgram) → IsProgram text other → other ≡ decls
 
--- the text spells no typed program of these declarations
+-- the text spells no typed program
 abbrev pub HasNoProgram : List ℕ → Type 0
 HasNoProgram text = (decls : PlainProgram) → IsProgram text decls → ⊥
 
@@ -59,7 +56,7 @@ pub record SpellsOne (Holds : PlainProgram → Type 0) (text : List ℕ) : Type 
   pub only : (other : PlainProgram) → IsProgramOf text other → other ≡ program
   pub holds : Holds program
 
--- why a text spells no typed program of these declarations
+-- why a text spells no typed program
 abbrev pub IsRefusedBy : List ℕ → Refusal → Type 0
 IsRefusedBy text (refusal.Byte at) = IsBad text (lexed.BadByte at)
 IsRefusedBy text (refusal.Number at) = IsBad text (lexed.BadNumber at)
@@ -67,7 +64,6 @@ IsRefusedBy text (refusal.Comment at) = IsBad text (lexed.OpenComment at)
 IsRefusedBy text (refusal.Syntax token) = SpellsNothing text token
 IsRefusedBy text (refusal.Deep token) = SpellsTooDeep text token
 IsRefusedBy text (refusal.Rule rule decl) = SpellsOne (λ program. BreaksFirst false program rule decl) text
-IsRefusedBy text refusal.NotYet = SpellsOne (OtherFirst false) text
 IsRefusedBy text _ = ⊥
 
 -- what is found in a text: its one typed program, or why it spells none

@@ -6,6 +6,8 @@ mod parsing;
 mod printing;
 mod reading;
 mod rule_names;
+#[cfg(test)]
+mod rule_tests;
 mod size_command;
 #[cfg(test)]
 mod size_tests;

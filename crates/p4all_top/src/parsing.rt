@@ -12,7 +12,7 @@ use p4_parser::parse;
 use spelling::SyntaxError;
 use std::alloc::{AllocError, Global};
 use target_desc::{KeyName, Target, TargetError};
-use width_check::{CheckError, Checked, Rule, TypeError, check, program};
+use width_check::{CheckError, Checked, Rule, TypeError, check};
 
 /// Why a source or a target's description isn't taken. Places in the source are in bytes, and its tokens and declarations are
 /// numbered; all count from 0.
@@ -42,8 +42,6 @@ pub enum Refusal {
     MissingKey { key: KeyName },
     /// The description has no whole number in its range at this key of a target, the first such.
     OutOfRange { key: KeyName },
-    /// The source has other declarations than those that are taken so far.
-    NotYet,
 }
 
 /// The most brackets that are open at one token.
@@ -63,11 +61,7 @@ pub fn program_of(alloc: Global, text: &[u8]) -> Result<Result<Checked, Refusal>
         Err(error) => return Ok(Err(refused_by_parser(error)?)),
     };
     match check(alloc, parsed, false) {
-        Ok(checked) => {
-            // What was checked has supported declarations alone: the contract of `program` says so, and the proof needs it here.
-            let _ = program(&checked);
-            Ok(Ok(checked))
-        }
+        Ok(checked) => Ok(Ok(checked)),
         Err(error) => Ok(Err(refused_by_check(error)?)),
     }
 }
@@ -101,7 +95,6 @@ fn refused_by_check(error: CheckError) -> Result<Refusal, AllocError>
 {
     match error {
         CheckError::Broken(TypeError { rule, decl }) => Ok(Refusal::Rule { rule, decl }),
-        CheckError::NotYet => Ok(Refusal::NotYet),
         CheckError::Memory => Err(AllocError),
     }
 }

@@ -83,7 +83,6 @@ pub fn refusal_line(alloc: Global, refusal: Refusal) -> Result<Lines, AllocError
         Refusal::UnknownKey => refused_line(alloc, b"target", b"unknown"),
         Refusal::MissingKey { key } => target_line(alloc, b"missing", key),
         Refusal::OutOfRange { key } => target_line(alloc, b"range", key),
-        Refusal::NotYet => notyet_line(alloc),
     }
 }
 
@@ -154,8 +153,8 @@ fn rule_line(alloc: Global, rule: Rule, decl: u32) -> Result<Lines, AllocError>
     Ok(lines)
 }
 
-/// The line that refuses what isn't built yet.
-fn notyet_line(alloc: Global) -> Result<Lines, AllocError>
+/// The line that gives up where what is chosen isn't built yet.
+pub fn notyet_line(alloc: Global) -> Result<Lines, AllocError>
     ensures { IfOk result (λ lines. lines ≡ notyet_text) }
 {
     let mut lines = refusal_begun(alloc, b"notyet")?;

@@ -11,7 +11,7 @@ const ROWS_AND_COLS: &str =
     struct meta_t { bit<16>[rows] idx; } maximize(10*rows + cols);";
 
 /// A target with one stage and these header bits.
-fn one_stage(alloc: Global, header_bits: u32) -> Result<String, AllocError> {
+pub fn one_stage(alloc: Global, header_bits: u32) -> Result<String, AllocError> {
     format!(in alloc;
         "stages = 1\nmemory_bits = 1024\nstateful = 2\nstateless = 8\ntable_bits = 1024\n\
         ternary_bits = 1024\nheader_bits = {header_bits}\nops = 8\n"
@@ -39,7 +39,7 @@ fn run(
 }
 
 /// A source, the header bits of its target, and what `size` ends with and prints.
-const ROWS: [(&str, u32, Status, &str); 24] = [
+const ROWS: [(&str, u32, Status, &str); 26] = [
     (
         ROWS_AND_COLS,
         64,
@@ -55,6 +55,14 @@ const ROWS: [(&str, u32, Status, &str); 24] = [
     (ROWS_AND_COLS, 0, Status::Infeasible, "infeasible\n"),
     ("maximize(7);", 64, Status::Done, "utility 7\n"),
     ("", 64, Status::Done, "utility 0\n"),
+    ("header h_t { bit<8> v; }", 64, Status::Done, "utility 0\n"),
+    (
+        "symbolic int s; header h_t { bit<16> v; } struct headers_t { h_t a; h_t b; } \
+        struct meta_t { bit<8>[s] x; } maximize(s);",
+        64,
+        Status::Done,
+        "size s 3\nutility 3\n",
+    ),
     (
         "symbolic int a; assume(a <= 40); maximize(table(a){0:0, 8:50, 16:60} - a);",
         64,
@@ -184,7 +192,12 @@ fn size_prints_the_best_sizes_or_why_there_are_none(rt: HostRuntime) -> Result<(
 }
 
 /// Whether `size` refuses a source and a target's description with this line.
-fn refuses(alloc: Global, source: &[u8], target: &[u8], line: &str) -> Result<bool, AllocError> {
+pub fn refuses(
+    alloc: Global,
+    source: &[u8],
+    target: &[u8],
+    line: &str,
+) -> Result<bool, AllocError> {
     let (ended, out) = run(alloc, source, target, &[])?;
     Ok(ended == Status::Refused && out.bytes() == line.as_bytes())
 }
@@ -258,7 +271,7 @@ fn a_description_is_refused_for_its_first_cause(rt: HostRuntime) -> Result<(), F
 }
 
 /// A source, and the line that refuses it.
-const REFUSED: [(&str, &str); 18] = [
+const REFUSED: [(&str, &str); 17] = [
     ("a $", "refused src byte 2\n"),
     ("const bit<8> a = 129w1;", "refused src number 17\n"),
     ("/*", "refused src comment 0\n"),
@@ -289,8 +302,10 @@ const REFUSED: [(&str, &str); 18] = [
         "maximize(x); header h_t { bit<8> v; }",
         "refused src rule UnknownName 0\n",
     ),
-    ("header h_t { bit<8> v; } maximize(x);", "refused notyet\n"),
-    ("header h_t { bit<8> v; }", "refused notyet\n"),
+    (
+        "header h_t { bit<8> v; } maximize(x);",
+        "refused src rule UnknownName 1\n",
+    ),
     (
         "symbolic int s; assume(s <= 1000000); maximize(0 - s);",
         "refused notyet\n",

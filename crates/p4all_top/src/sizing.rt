@@ -7,7 +7,7 @@ ghost use Rattle.p4all_top.specs.Printed.{refusal_text};
 ghost use Rattle.p4all_top.specs.Shown.{FitsSymbols, IsAnswerFor, ShowsChoice};
 
 use crate::parsing::Refusal;
-use crate::printing::{infeasible_line, refusal_line, sizes_lines, unbounded_line};
+use crate::printing::{infeasible_line, notyet_line, refusal_line, sizes_lines, unbounded_line};
 use crate::status::Status;
 use box_listing::{Choice, choose};
 use elx_bits::Name;
@@ -24,7 +24,7 @@ pub struct Outcome {
     pub lines: Lines,
 }
 
-/// The refusal of a source, of a description, or of what isn't built yet.
+/// The refusal of a source or of a description.
 pub fn refused(alloc: Global, refusal: Refusal) -> Result<Outcome, AllocError>
     ensures status { IfOk result (λ outcome. outcome.status ≡ Status.Refused) }
     ensures lines { IfOk result (λ outcome. outcome.lines ≡ refusal_text refusal) }
@@ -50,7 +50,7 @@ fn outcome_of(alloc: Global, symbols: &[Name], choice: Choice) -> Result<Outcome
         Choice::Unbounded { symbol } => {
             (Status::Refused, unbounded_line(alloc, &symbols[symbol])?)
         }
-        Choice::TooMany => (Status::Refused, refusal_line(alloc, Refusal::NotYet)?),
+        Choice::NotYet => (Status::Refused, notyet_line(alloc)?),
     };
     Ok(Outcome { status, lines })
 }

@@ -1,12 +1,11 @@
 -- What a checked program keeps of its terms, and how its rows and its utility are built step by step.
 use Rattle.std.proofs.lemmas.Bool.{and_from, and_parts}
-use Rattle.std.proofs.Common.{◌≡◌, ℕ, zero, suc, ◌+◌, ◌<◌, ◌≤◌, ◌&&◌, Bool, true, false, cond, is_some, List, [], ◌∷◌, ◌++◌, map, flat_map, append_assoc, length, take, drop, get_or, Some, None, refl, sym, ap, subst, ◌∙◌, arith, add-one, ℤ, ◌+ℤ◌}
-use Rattle.std.specs.Prelude.{◌↔◌, nat_le, All, if◌then◌else◌}
+use Rattle.std.proofs.Common.{◌≡◌, ℕ, zero, suc, ◌+◌, ◌<◌, ◌≤◌, ◌&&◌, Bool, true, false, cond, is_some, List, [], ◌∷◌, ◌++◌, map, flat_map, append_assoc, length, take, drop, get_or, Some, None, refl, sym, ap, ◌∙◌, arith, add-one, ℤ, ◌+ℤ◌}
+use Rattle.std.specs.Prelude.{nat_le, if◌then◌else◌}
 use Rattle.std.specs.List.{list_all, position_from}
 use Rattle.std.proofs.lemmas.Int.{ints}
 use Rattle.std.proofs.lemmas.Bool.Decides.{nat_tests}
 use Rattle.std.proofs.lemmas.List.{append-nil}
-use Rattle.std.proofs.lemmas.List.Elements.{All-from_recursion}
 use Rattle.std.proofs.lemmas.List.Folds.{list_all-append}
 use Rattle.std.proofs.lemmas.Grind.{flat_map-append}
 use Rattle.elastic_ast.specs.declared.declarations.Comp.{Comp}
@@ -22,26 +21,24 @@ use Rattle.elastic_ast.specs.Typing.Demand.{Term, Few, Rising, from_zero, rises,
 use Rattle.elastic_ast.specs.Typing.AskedOfNames.{asks_symbol}
 use Rattle.elastic_ast.specs.Typing.Asked.{asks_term, asks_comp, asks_pair, pair_key, asks_util, asks_decl, is_first}
 use Rattle.elastic_ast.specs.Typing.Typed.{broken_rule, first_of}
-use Rattle.elastic_ast.specs.Sizes.SizeSums.{comps_of, comparisons, utility_terms, symbols_of, IsCounted, Assumes}
-use Rattle.elastic_ast.specs.Sizes.Counted.{counted_in_decl, counted_symbols}
+use Rattle.elastic_ast.specs.Sizes.SizeSums.{comps_of, comparisons, utility_terms, symbols_of}
 use Rattle.elastic_ast.proofs.Typing.First.{first-append}
 use Rattle.elastic_ast.proofs.Typing.TypedLaws.{if_none, none_both, unmapped}
-use Rattle.width_check.specs.Supported.{is_supported}
 use Rattle.width_check.specs.Sound.{IsSound, most_declarations}
+use Rattle.width_check.proofs.BrokenLaws.{typed_walk}
 use Rattle.width_check.proofs.CheckLaws.{other_broken, broken_parts}
 use Rattle.width_check.proofs.ScopeLaws.{step_take}
 use Rattle.width_check.proofs.Steps.{items_drop}
 use Rattle.size_terms.specs.declared.sums.Sum.{Sum}
 use Rattle.size_terms.specs.Places.{place_of}
-use Rattle.size_terms.specs.Rows.{RowsHold, is_near_pair}
+use Rattle.size_terms.specs.Rows.{is_near_pair}
 use Rattle.size_terms.specs.Coefficients.{rows_of_comp, rows_of}
 use Rattle.size_terms.specs.Growth.{sum_worth, is_near, linear_value, linears_value}
 use Rattle.size_terms.specs.Building.{is_short, is_near_util, AddsComps}
-use Rattle.size_terms.proofs.CoefficientLaws.{rows_are}
 
 -- tests
 -- what a declaration asks of itself is met
-own_met : (before : List PlainDecl) (d : PlainDecl) → broken_rule true before d ≡ None → first_broken true (asks_decl before d) ≡ None
+pub own_met : (before : List PlainDecl) (d : PlainDecl) → broken_rule true before d ≡ None → first_broken true (asks_decl before d) ≡ None
 own_met before d h = (if_none (is_first before d) _ (first_broken true (asks_decl before d)) (none_both _ (other_broken true (is_first before d) (first_broken true (asks_decl before d))) (sym (broken_parts true before d (is_first before d) refl) ∙ h)).1).1
 
 terms_near : (before : List PlainDecl) (ts : List LinTerm) → first_broken true (flat_map (asks_term before) ts) ≡ None → list_all is_near ts ≡ true
@@ -75,7 +72,7 @@ all_short k before (d ∷ ds) h =
     ∙ and_from (list_all is_short (comps_of d)) (list_all is_short (comparisons ds)) (decl_short before d (own_met before d (unmapped (broken_rule true before d) k p.0))) (all_short (k + 1) (before ++ d ∷ []) ds p.1)
 
 pub sound_short : (ds : List PlainDecl) → IsSound ds → list_all is_short (comparisons ds) ≡ true
-sound_short ds s = all_short 0 [] ds s.rules
+sound_short ds s = all_short 0 [] ds (typed_walk true ds s.typed)
 
 -- the terms of the utility are few and small, and its step tables are over symbols
 pairs_near : (pairs : List (ℕ × ℕ)) → first_broken true (flat_map asks_pair pairs) ≡ None → list_all is_near_pair pairs ≡ true
@@ -116,7 +113,7 @@ utils_here symbols before (PlainDecl.Maximize ts) ds places h rest =
     (few ts p.0, utils_near symbols before ts places p.1)
 utils_here symbols before _ ds places h rest = rest
 
-symbol_placed : (name : Name) (k : ℕ) (before after : List PlainDecl) → is_symbol before name ≡ true → is_some (position_from (same name) k (symbols_of (before ++ after))) ≡ true
+pub symbol_placed : (name : Name) (k : ℕ) (before after : List PlainDecl) → is_symbol before name ≡ true → is_some (position_from (same name) k (symbols_of (before ++ after))) ≡ true
 symbol_placed name k [] after h = cc
 symbol_placed name k (PlainDecl.Symbol symbol ∷ before) after h = by (same name symbol) h (symbol_placed name (k + 1) before after)
   where
@@ -134,10 +131,10 @@ utils_few symbols k before (d ∷ ds) e h =
     (utils_few symbols (k + 1) (before ++ d ∷ []) ds (e ∙ ap symbols_of (sym (append_assoc before (d ∷ []) ds))) p.1)
 
 pub sound_few : (ds : List PlainDecl) → IsSound ds → length (utility_terms ds) ≤ 64
-sound_few ds s = (utils_few (symbols_of ds) 0 [] ds refl s.rules).0
+sound_few ds s = (utils_few (symbols_of ds) 0 [] ds refl (typed_walk true ds s.typed)).0
 
 pub sound_near : (ds : List PlainDecl) → IsSound ds → list_all (is_near_util (symbols_of ds)) (utility_terms ds) ≡ true
-sound_near ds s = (utils_few (symbols_of ds) 0 [] ds refl s.rules).1
+sound_near ds s = (utils_few (symbols_of ds) 0 [] ds refl (typed_walk true ds s.typed)).1
 
 -- a declaration declares one symbol at most
 symbols_few : (ds : List PlainDecl) → length (symbols_of ds) ≤ length ds
@@ -180,23 +177,3 @@ utils_step symbols sum new ts i t sizes whole h e grown inv =
 -- the rows of a whole program
 pub rows_given : (given taken : List Decl) (names : List Name) (rows : List Linear) → given ≡ taken → names ≡ symbols_of (seen_decls given) → AddsComps names [] rows (comparisons (seen_decls given)) → rows ≡ rows_of (seen_decls taken)
 rows_given given taken names rows e n adds = adds.added ∙ ap (λ z. flat_map (rows_of_comp z) (comparisons (seen_decls given))) n ∙ ap (λ z. rows_of (seen_decls z)) e
-
--- no declaration that the checker takes counts anything
-supported_counts : (d : PlainDecl) → is_supported d ≡ true → counted_in_decl d ≡ []
-supported_counts (PlainDecl.Register name width cells size) h = cc
-supported_counts (PlainDecl.Parser name states) h = cc
-supported_counts (PlainDecl.Control name locals body) h = cc
-supported_counts _ h = refl
-
-none_counted : (ds : List PlainDecl) → list_all is_supported ds ≡ true → counted_symbols ds ≡ []
-none_counted [] h = refl
-none_counted (d ∷ ds) h =
-    ap (λ (z : List Name). z ++ counted_symbols ds) (supported_counts d ((and_parts (is_supported d) (list_all is_supported ds) h).0))
-    ∙ none_counted ds ((and_parts (is_supported d) (list_all is_supported ds) h).1)
-
-pub rows_assume : (decls : List PlainDecl) (rows : List Linear) → IsSound decls → rows ≡ rows_of decls → (sizes : List ℕ) → RowsHold rows sizes ↔ Assumes decls sizes
-rows_assume decls rows sound e sizes =
-    let compare = rows_are decls sizes in
-    let none : All (IsCounted decls sizes) (counted_symbols decls) = subst (All (IsCounted decls sizes)) (sym (none_counted decls sound.supported)) (All-from_recursion (IsCounted decls sizes) [] tt) in
-    subst (λ (z : List Linear). RowsHold z sizes ↔ Assumes decls sizes) (sym e)
-    (λ h. record { compared = compare.0 h; counted = none }, λ a. compare.1 a.compared)

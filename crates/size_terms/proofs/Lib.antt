@@ -6,4 +6,6 @@ pub mod CoefficientLaws
 pub mod RowLaws
 pub mod WorthLaws
 pub mod BuildLaws
+pub mod CountedLaws
+pub mod OneLaws
 pub mod TableLaws

@@ -7,3 +7,4 @@ pub mod RowsMean
 pub mod Tables
 pub mod SumLimits
 pub mod TermsMean
+pub mod Ones

@@ -21,6 +21,18 @@ RowHolds sizes row = dot row.by sizes ≤ℤ row.most
 abbrev pub RowsHold : List Linear → List ℕ → Type 0
 RowsHold rows sizes = All (RowHolds sizes) rows
 
+-- each symbol of these numbers has a size of at least 1
+abbrev pub OneHolds : List ℕ → ℕ → Type 0
+OneHolds sizes place = 1 ≤ get_or sizes place 0
+
+abbrev pub OnesHold : List ℕ → List ℕ → Type 0
+OnesHold sizes ones = All (OneHolds sizes) ones
+
+-- every row holds at these sizes, and each symbol that counts cells or is a modulus is at least 1
+pub record TermsHold (terms : Terms) (sizes : List ℕ) : Type 0 where
+  pub rows : RowsHold terms.rows sizes
+  pub ones : OnesHold sizes terms.ones
+
 -- what a step table gives at these sizes: the value of its last key that isn't above the size of its symbol, with its sign
 abbrev pub table_worth : List ℕ → Steps → ℤ
 table_worth sizes table = negated_if table.minus (pos (step_value (get_or sizes table.symbol 0) 0 table.pairs))
@@ -62,6 +74,6 @@ pub record IsNearTable (symbols : ℕ) (table : Steps) : Type 0 where
 pub record AreShort (terms : Terms) : Type 0 where
   pub rows : All (λ row. IsShort (length terms.symbols) row.by row.most) terms.rows
   pub utility : IsShort (length terms.symbols) terms.by terms.base
-  pub ones : terms.ones ≡ []
+  pub ones : All (λ place. place < length terms.symbols) terms.ones
   pub tables : All (IsNearTable (length terms.symbols)) terms.steps
   pub few : length terms.steps ≤ most_terms

@@ -5,7 +5,7 @@ use Rattle.elastic_ast.specs.declared.flat.Terms.{Terms}
 use Rattle.elastic_ast.specs.Tree.{Name, PlainDecl}
 use Rattle.elastic_ast.specs.Sizes.SizeSums.{Assumes, comparisons, utility, utility_terms, utils_value}
 use Rattle.elastic_ast.specs.Typing.LanguageLimits.{most_terms}
-use Rattle.size_terms.specs.Rows.{RowsHold, worth, IsNearTable, tables_worth}
+use Rattle.size_terms.specs.Rows.{TermsHold, worth, IsNearTable, tables_worth}
 use Rattle.size_terms.specs.SumLimits.{most_bulk}
 use Rattle.size_terms.specs.Growth.{sum_worth, bulk}
 use Rattle.size_terms.specs.Building.{AddsComps}
@@ -25,9 +25,9 @@ pub record IsUtilityOf (symbols : List Name) (decls : List PlainDecl) (parts : U
   pub near : All (IsNearTable (length symbols)) parts.tables
   pub few : length parts.tables ≤ most_terms
 
--- the rows hold at sizes exactly where the assume clauses do
+-- the terms hold at sizes exactly where the assume clauses do, and what counts cells or is a modulus is at least 1
 abbrev pub SayAssumes : List PlainDecl → Terms → Type 0
-SayAssumes decls terms = (sizes : List ℕ) → RowsHold terms.rows sizes ↔ Assumes decls sizes
+SayAssumes decls terms = (sizes : List ℕ) → TermsHold terms sizes ↔ Assumes decls sizes
 
 -- the utility is worth what that of the program is
 abbrev pub SayUtility : List PlainDecl → Terms → Type 0

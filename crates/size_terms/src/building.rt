@@ -7,6 +7,7 @@ ghost use Rattle.elastic_ast.specs.Sizes.SizeSums.{symbol_name, symbols_of, comp
 ghost use Rattle.width_check.specs.Sound.{IsSound};
 ghost use Rattle.size_terms.specs.Rows.{AreShort, worth};
 ghost use Rattle.size_terms.specs.Coefficients.{rows_of};
+ghost use Rattle.size_terms.specs.Ones.{ones_of};
 ghost use Rattle.size_terms.specs.Building.{AddsComps, is_short, is_near_util, IsLinearPart};
 ghost use Rattle.size_terms.specs.Tables.{tables_of};
 ghost use Rattle.size_terms.specs.Growth.{bulk, GrowsByUtility};
@@ -16,6 +17,7 @@ ghost use Rattle.elastic_ast.specs.Typing.LanguageLimits.{most_terms};
 ghost use Rattle.size_terms.specs.TermsMean.{AreAssumeRows, IsUtilityOf, SayAssumes, SayUtility};
 
 use crate::comparisons::push_comparison;
+use crate::ones::ones;
 use crate::places::Places;
 use crate::sums::{Sum, add_term, zero_sum};
 use crate::tables::step_tables;
@@ -29,6 +31,14 @@ use width_check::{Checked, program};
 struct Utility {
     sum: Sum,
     tables: Items<Steps>,
+}
+
+/// What the terms of a program are made of, its symbols aside.
+#[derive(Drop)]
+struct Parts {
+    rows: Items<Linear>,
+    ones: Items<u32>,
+    utility: Utility,
 }
 
 /// The names of the symbols, in the order of declaration.
@@ -142,12 +152,13 @@ fn utility_sum(
 }
 
 /// What a checked program says of its sizes: its symbols in the order of declaration, a row or two for each comparison of
-/// its assume clauses in the order of the text, and its utility with the step tables in the order of the text. The rows hold
-/// at sizes exactly where every comparison is true, and the utility is worth what the program's is. The one error is want of
-/// memory.
+/// its assume clauses in the order of the text, the numbers of the symbols that count cells or are a modulus, and its utility
+/// with the step tables in the order of the text. The rows hold at sizes, and those numbers are at least 1, exactly where the
+/// assume clauses are met; the utility is worth what the program's is. The one error is want of memory.
 pub fn terms(alloc: Global, checked: &Checked) -> Result<Terms, AllocError>
     ensures symbols { IfOk result (λ terms. terms.symbols ≡ symbols_of (seen_decls checked.now)) }
     ensures rows { IfOk result (λ terms. terms.rows ≡ rows_of (seen_decls checked.now)) }
+    ensures ones { IfOk result (λ terms. terms.ones ≡ ones_of (seen_decls checked.now)) }
     ensures tables { IfOk result (λ terms. terms.steps ≡ tables_of (seen_decls checked.now)) }
     ensures assumes { IfOk result (SayAssumes (seen_decls checked.now)) }
     ensures utility { IfOk result (SayUtility (seen_decls checked.now)) }
@@ -155,13 +166,18 @@ pub fn terms(alloc: Global, checked: &Checked) -> Result<Terms, AllocError>
 {
     let decls = program(checked).decls.as_slice();
     let symbols = symbol_names(alloc, decls)?;
-    let (rows, utility) = rows_and_utility(alloc, symbols.as_slice(), decls)?;
+    let parts = parts_of(alloc, symbols.as_slice(), decls)?;
+    let Parts {
+        rows,
+        ones,
+        utility,
+    } = parts;
     let Utility { sum, tables } = utility;
     let Sum { by, constant } = sum;
     Ok(Terms {
         symbols,
         rows,
-        ones: Items::new(alloc),
+        ones,
         base: constant,
         by: Items::from_vec(by),
         steps: tables,
@@ -174,21 +190,23 @@ pub fn rows_say_comparisons()
     ensures { RowsSayComparisons }
 {}
 
-/// The rows and the utility of declarations over their symbols.
-fn rows_and_utility(
-    alloc: Global,
-    symbols: &[Name],
-    decls: &[Decl],
-) -> Result<(Items<Linear>, Utility), AllocError>
+/// The rows of declarations over their symbols, what they count, and their utility.
+fn parts_of(alloc: Global, symbols: &[Name], decls: &[Decl]) -> Result<Parts, AllocError>
     requires sound { IsSound (seen_decls decls.now) }
     requires given { symbols.now ≡ symbols_of (seen_decls decls.now) }
-    ensures rows { IfOk result (λ found. AreAssumeRows symbols.now (seen_decls decls.now) found.0) }
-    ensures utility { IfOk result (λ found. IsUtilityOf symbols.now (seen_decls decls.now) found.1) }
+    ensures rows { IfOk result (λ parts. AreAssumeRows symbols.now (seen_decls decls.now) parts.rows) }
+    ensures ones { IfOk result (λ parts. parts.ones ≡ ones_of (seen_decls decls.now)) }
+    ensures utility { IfOk result (λ parts. IsUtilityOf symbols.now (seen_decls decls.now) parts.utility) }
 {
     let places = Places::of(alloc, symbols)?;
     let rows = assume_rows(alloc, &places, symbols.len(), decls)?;
+    let ones = ones(alloc, &places, symbols.len(), decls)?;
     let terms = util_terms_of(decls);
     let sum = utility_sum(alloc, &places, symbols.len(), terms)?;
     let tables = step_tables(alloc, &places, terms)?;
-    Ok((rows, Utility { sum, tables }))
+    Ok(Parts {
+        rows,
+        ones,
+        utility: Utility { sum, tables },
+    })
 }

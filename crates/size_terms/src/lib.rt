@@ -3,6 +3,7 @@
 
 mod building;
 mod comparisons;
+mod ones;
 mod places;
 mod sums;
 mod tables;

@@ -1,10 +1,10 @@
 //! What rows and terms are worth at given sizes.
 
-ghost use Rattle.std.specs.Prelude.{◌≡◌, ◌≤◌, ◌*◌, ◌^◌, ◌↔◌, IsTrue, true, length, All, unsigned_abs, pos, ◌*ℤ◌};
+ghost use Rattle.std.specs.Prelude.{◌≡◌, ◌≤◌, ◌<◌, ◌*◌, ◌^◌, ◌↔◌, IsTrue, true, length, All, unsigned_abs, pos, ◌*ℤ◌};
 ghost use Rattle.std.specs.List.{list_all};
 ghost use Rattle.elastic_ast.specs.Sizes.SizeSums.{step_value};
 ghost use Rattle.elastic_ast.specs.Typing.LanguageLimits.{most_number, most_terms};
-ghost use Rattle.size_terms.specs.Rows.{dot, coefficient_weight, worth, table_worth, tables_worth, is_near_pair, IsNearTable, IsShort, RowHolds, RowsHold, AreShort};
+ghost use Rattle.size_terms.specs.Rows.{dot, coefficient_weight, worth, table_worth, tables_worth, is_near_pair, IsNearTable, IsShort, RowHolds, RowsHold, OneHolds, OnesHold, TermsHold, AreShort};
 ghost use Rattle.size_terms.specs.SumLimits.{most_bulk};
 
 use crate::sums::signed_number;
@@ -79,21 +79,50 @@ fn row_holds(row: &Linear, sizes: &[u64]) -> bool
     dot_of(row.by.as_slice(), sizes) <= row.most
 }
 
+/// Whether every row holds at these sizes.
+fn rows_hold(rows: &[Linear], sizes: &[u64]) -> bool
+    requires { All (λ row. IsShort (length sizes.now) row.by row.most) rows.now }
+    ensures { IsTrue result ↔ RowsHold rows.now sizes.now }
+{
+    for row in rows {
+        if !row_holds(row, sizes) {
+            return false;
+        }
+    }
+    true
+}
+
+/// Whether the symbol of this number has a size of at least 1.
+fn one_holds(place: u32, sizes: &[u64]) -> bool
+    requires { place < length sizes.now }
+    ensures { IsTrue result ↔ OneHolds sizes.now place }
+{
+    sizes[place as usize] >= 1
+}
+
+/// Whether each symbol of these numbers has a size of at least 1.
+fn ones_hold(ones: &[u32], sizes: &[u64]) -> bool
+    requires { All (λ place. place < length sizes.now) ones.now }
+    ensures { IsTrue result ↔ OnesHold sizes.now ones.now }
+{
+    for place in ones {
+        if !one_holds(*place, sizes) {
+            return false;
+        }
+    }
+    true
+}
+
 /// Whether sizes meet the assume clauses, and the rule that what counts cells or is a modulus is at least 1.
 ///
 /// There is one size per symbol, and the terms are those that `terms` gave.
 pub fn holds(terms: &Terms, sizes: &Sizes) -> bool
     requires dense { length sizes.now.values ≡ length terms.now.symbols }
     requires short { AreShort terms.now }
-    ensures { IsTrue result ↔ RowsHold terms.now.rows sizes.now.values }
+    ensures { IsTrue result ↔ TermsHold terms.now sizes.now.values }
 {
     let sizes = sizes.values.as_slice();
-    for row in terms.rows.as_slice() {
-        if !row_holds(row, sizes) {
-            return false;
-        }
-    }
-    true
+    rows_hold(terms.rows.as_slice(), sizes) && ones_hold(terms.ones.as_slice(), sizes)
 }
 
 /// The utility at these sizes: the sum of the terms of `maximize`.

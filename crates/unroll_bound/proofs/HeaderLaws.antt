@@ -2,8 +2,9 @@
 use Rattle.std.proofs.Common.{◌≡◌, ◌≢◌, ℕ, zero, suc, ◌+◌, ◌-◌, ◌^◌, ◌<◌, Bool, true, false, List, [], ◌∷◌, ◌++◌, length, drop, get_or, Option, Some, None, refl, sym, ap, ◌∙◌, subst, arith, min, get_or-set_other, get_or-set_same}
 use Rattle.std.specs.Prelude.{nat_eq, replicate, sum_by, is_some, option_and_then, if◌then◌else◌}
 use Rattle.std.proofs.lemmas.List.Sums.{sum_by-append, sum_by-cons}
-use Rattle.elastic_ast.specs.Typing.LookUps.{meta_fields}
-use Rattle.elastic_ast.specs.Units.UnitsOf.{scalar_bits}
+use Rattle.elastic_ast.specs.Typing.LookUps.{members_of, meta_fields}
+use Rattle.elastic_ast.specs.Typing.Asked.{DeclKind, has}
+use Rattle.elastic_ast.specs.Units.UnitsOf.{member_bits, scalar_bits, fixed_bits}
 use Rattle.width_check.specs.Sound.{IsSound}
 use Rattle.unroll_bound.proofs.UnitLaws.{fixed_law, element_law}
 use Rattle.unroll_bound.proofs.Widths.{width_here, width_there}
@@ -16,6 +17,7 @@ use Rattle.elastic_ast.specs.Tree.{Name, PlainDecl}
 use Rattle.size_terms.specs.Places.{place_of}
 use Rattle.width_check.proofs.Steps.{items_drop}
 use Rattle.unroll_bound.specs.HeaderUse.{capped, width_for, element_bits, AddsFields, IsUseOf}
+use Rattle.unroll_bound.specs.HeaderTypes.{headers_counted}
 use Rattle.unroll_bound.specs.declared.header.HeaderUse.{HeaderUse}
 
 capped_both : (old mid new a b c : ℕ) → c ≡ a + b → capped mid ≡ capped (old + a) → capped new ≡ capped (mid + b) → capped new ≡ capped (old + c)
@@ -114,14 +116,17 @@ zeros_at zero place z e = sym e
 zeros_at (suc n) zero z e = refl
 zeros_at (suc n) (suc place) z e = zeros_at n place z e
 
--- counted from nothing
-pub use_is : (decls : List PlainDecl) (symbols : List Name) (zeros bits : HeaderUse) → IsSound decls → symbols ≡ symbols_of decls → zeros.fixed_bits ≡ 0 → zeros.symbol_bits.items ≡ replicate (length symbols) 0
-    → AddsFields symbols zeros bits (meta_fields decls) → IsUseOf decls bits
-use_is decls symbols zeros bits sound names none nones x = record {
-  fixed = x.fixed ∙ ap capped (let e = fixed_law decls sound in omega (arith, none, e));
+-- counted from the bits of the headers
+pub use_is : (decls : List PlainDecl) (symbols : List Name) (begun bits : HeaderUse) → IsSound decls → has DeclKind.Main decls ≡ false → symbols ≡ symbols_of decls → begun.fixed_bits ≡ headers_counted decls
+    → begun.symbol_bits.items ≡ replicate (length symbols) 0 → AddsFields symbols begun bits (meta_fields decls) → IsUseOf decls bits
+use_is decls symbols begun bits sound no_main names headers nones x = record {
+  fixed = capped_from begun.fixed_bits bits.fixed_bits (sum_by (member_bits decls) (members_of decls)) (sum_by scalar_bits (meta_fields decls)) (fixed_bits decls) (fixed_law decls no_main) headers x.fixed;
   each = λ place h.
-      let e = element_law decls sound place h in
+      let e = element_law decls sound no_main place h in
       x.each place (let e = ap length names in omega (arith, e)) ∙ ap (λ z. capped (z + sum_by (element_bits symbols place) (meta_fields decls))) (ap (λ z. get_or z place 0) nones ∙ zeros_at (length symbols) place 0 refl)
       ∙ ap capped (omega arith) ∙ ap (λ z. capped (sum_by (element_bits z place) (meta_fields decls))) names ∙ ap capped (sym e);
   dense = x.dense ∙ ap length nones ∙ length-replicate (length symbols) 0 ∙ ap length names;
 }
+  where
+    capped_from : (old new headers scalars both : ℕ) → both ≡ headers + scalars → old ≡ capped headers → capped new ≡ capped (old + scalars) → capped new ≡ capped both
+    capped_from old new headers scalars both s e f = omega arith

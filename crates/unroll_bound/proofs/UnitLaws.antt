@@ -1,7 +1,7 @@
--- What a supported program takes: it has no header and no unit, and no two of its symbols have one name.
-use Rattle.std.proofs.Common.{◌≡◌, ◌≢◌, ℕ, zero, suc, ◌+◌, ◌<◌, Bool, true, false, cond, ◌&&◌, ◌||◌, List, [], ◌∷◌, ◌++◌, length, get_or, Option, Some, None, refl, sym, ap, ◌∙◌, subst, arith, true≢false}
+-- What a typed program without `main` takes: it has no unit, and no two of its symbols have one name.
+use Rattle.std.proofs.Common.{◌≡◌, ◌≢◌, ℕ, zero, suc, ◌+◌, ◌<◌, Bool, true, false, cond, ◌||◌, List, [], ◌∷◌, ◌++◌, length, get_or, Option, Some, None, refl, sym, ap, ◌∙◌, subst, arith, true≢false}
 use Rattle.std.specs.Prelude.{if◌then◌else◌, sum_by, option_and_then, option_map, unwrap_or}
-use Rattle.std.specs.List.{list_all, position_from}
+use Rattle.std.specs.List.{position_from}
 use Rattle.std.proofs.lemmas.Bool.{or_right}
 use Rattle.std.proofs.lemmas.List.{get_or-map}
 use Rattle.std.proofs.lemmas.List.Concat.{flat_map-append}
@@ -10,13 +10,13 @@ use Rattle.std.proofs.lemmas.List.Sums.{sum_by-cons}
 use Rattle.elastic_ast.specs.declared.declarations.Field.{Field}
 use Rattle.elastic_ast.specs.declared.rule.Rule.{Rule}
 use Rattle.elastic_ast.specs.Tree.{Name, PlainDecl, PlainStmts}
-use Rattle.elastic_ast.specs.Typing.Scope.{same, among, found, or_else}
-use Rattle.elastic_ast.specs.Typing.LookUps.{members_in, members_of, meta_fields}
+use Rattle.elastic_ast.specs.Typing.Scope.{same, among, found}
+use Rattle.elastic_ast.specs.Typing.LookUps.{members_of, meta_fields}
 use Rattle.elastic_ast.specs.Packets.MainParts.{main_in, control_in}
 use Rattle.elastic_ast.specs.Sizes.SizeSums.{symbol_name, symbols_of}
 use Rattle.elastic_ast.specs.Units.Cuts.{cut_all}
 use Rattle.elastic_ast.specs.Typing.AskedOfNames.{asks_names, top_name, top_names}
-use Rattle.elastic_ast.specs.Typing.Asked.{asks_decl, is_first}
+use Rattle.elastic_ast.specs.Typing.Asked.{DeclKind, has, asks_decl, is_first}
 use Rattle.elastic_ast.specs.Typing.Demand.{First, first_broken}
 use Rattle.elastic_ast.specs.Typing.Typed.{broken_rule, first_of}
 use Rattle.elastic_ast.specs.Units.UnitsOf.{flat, units_of, member_bits, scalar_bits, predicate_bits, fixed_bits, is_of_size, array_bits, bits_of_symbol, symbol_bits}
@@ -27,37 +27,26 @@ use Rattle.elastic_ast.proofs.Typing.TypedLaws.{none_both, unmapped}
 use Rattle.elastic_laws.proofs.Typing.TypedNames.{names_new}
 use Rattle.size_terms.specs.Places.{place_of}
 use Rattle.size_terms.proofs.SumLaws.{within_from}
-use Rattle.width_check.specs.Supported.{is_supported}
 use Rattle.width_check.specs.Sound.{IsSound}
+use Rattle.width_check.proofs.BrokenLaws.{typed_walk}
 use Rattle.unroll_bound.specs.HeaderUse.{width_for, element_bits}
+use Rattle.unroll_bound.specs.NoUnits.{NoMainNoUnits}
 use Rattle.unroll_bound.proofs.Widths.{width_here, width_there}
 
--- a look-up that no supported declaration answers
-none_found : {A : Type 0} (gives : PlainDecl → Option A) → ((decl : PlainDecl) → is_supported decl ≡ true → gives decl ≡ None) → (decls : List PlainDecl) → list_all is_supported decls ≡ true → found gives decls ≡ None
-none_found gives none [] all = refl
-none_found gives none (decl ∷ decls) all = by (is_supported decl) refl all (none_found gives none decls)
-  where
-    by : (b : Bool) → is_supported decl ≡ b → (b && list_all is_supported decls) ≡ true → (list_all is_supported decls ≡ true → found gives decls ≡ None) → found gives (decl ∷ decls) ≡ None
-    by true e all later = ap (λ z. or_else z (found gives decls)) (none decl e) ∙ later all
-    by false e all later = cc
+-- without `main` no control is run
+main_nowhere : (decls : List PlainDecl) → has DeclKind.Main decls ≡ false → found main_in decls ≡ None
+main_nowhere [] h = refl
+main_nowhere (PlainDecl.Main parser control deparser ∷ decls) h = cc
+main_nowhere (other ∷ decls) h = main_nowhere decls h
 
-no_members : (decl : PlainDecl) → is_supported decl ≡ true → members_in decl ≡ None
-no_members (PlainDecl.Headers members) e = cc
-no_members other e = refl
+pub no_units : NoMainNoUnits
+no_units decls h = ap (λ main. flat decls (cut_all (unwrap_or (option_and_then (λ m. found (control_in m.1) decls) main) PlainStmts.nil) false 0 None) 0) (main_nowhere decls h)
 
-no_main : (decl : PlainDecl) → is_supported decl ≡ true → main_in decl ≡ None
-no_main (PlainDecl.Main parser control deparser) e = cc
-no_main other e = refl
-
-no_units : (decls : List PlainDecl) → IsSound decls → units_of decls ≡ []
-no_units decls sound = ap (λ main. flat decls (cut_all (unwrap_or (option_and_then (λ m. found (control_in m.1) decls) main) PlainStmts.nil) false 0 None) 0) (none_found main_in no_main decls sound.supported)
-
--- the bits at all sizes are those of the scalars
-pub fixed_law : (decls : List PlainDecl) → IsSound decls → fixed_bits decls ≡ sum_by scalar_bits (meta_fields decls)
-fixed_law decls sound =
-    let members : sum_by (member_bits decls) (members_of decls) ≡ 0 = ap (λ z. sum_by (member_bits decls) (unwrap_or z [])) (none_found members_in no_members decls sound.supported) in
-    let units : sum_by (predicate_bits None) (units_of decls) ≡ 0 = ap (sum_by (predicate_bits None)) (no_units decls sound) in
-    omega (arith, members, units)
+-- the bits at all sizes are those of the headers and the scalars
+pub fixed_law : (decls : List PlainDecl) → has DeclKind.Main decls ≡ false → fixed_bits decls ≡ sum_by (member_bits decls) (members_of decls) + sum_by scalar_bits (meta_fields decls)
+fixed_law decls no_main =
+    let units : sum_by (predicate_bits None) (units_of decls) ≡ 0 = ap (sum_by (predicate_bits None)) (no_units decls no_main) in
+    omega (arith, units)
 
 -- no name stands twice
 abbrev AreApart : List Name → Type 0
@@ -179,10 +168,10 @@ sums_alike f g same (field ∷ fields) =
     sum_by-cons f field fields ∙ omega (arith, ih, here) ∙ sym (sum_by-cons g field fields)
 
 -- the bits for each one more of a symbol are those of the arrays of its size
-pub element_law : (decls : List PlainDecl) → IsSound decls → (place : ℕ) → place < length (symbols_of decls) → get_or (symbol_bits decls) place 0 ≡ sum_by (element_bits (symbols_of decls) place) (meta_fields decls)
-element_law decls sound place h =
+pub element_law : (decls : List PlainDecl) → IsSound decls → has DeclKind.Main decls ≡ false → (place : ℕ) → place < length (symbols_of decls) → get_or (symbol_bits decls) place 0 ≡ sum_by (element_bits (symbols_of decls) place) (meta_fields decls)
+element_law decls sound no_main place h =
     let symbol : Name = get_or (symbols_of decls) place [] in
-    let apart = (behind 0 [] decls sound.rules).apart in
-    let units : sum_by (predicate_bits (Some (place_of_symbol decls symbol))) (units_of decls) ≡ 0 = ap (sum_by (predicate_bits (Some (place_of_symbol decls symbol)))) (no_units decls sound) in
+    let apart = (behind 0 [] decls (typed_walk true decls sound.typed)).apart in
+    let units : sum_by (predicate_bits (Some (place_of_symbol decls symbol))) (units_of decls) ≡ 0 = ap (sum_by (predicate_bits (Some (place_of_symbol decls symbol)))) (no_units decls no_main) in
     let alike = sums_alike (array_bits symbol) (element_bits (symbols_of decls) place) (element_is (symbols_of decls) place apart h) (meta_fields decls) in
     get_or-map (bits_of_symbol decls) (symbols_of decls) place [] 0 h ∙ omega (arith, units, alike)

@@ -1,12 +1,15 @@
 //! The header bits that a program takes.
 
-ghost use Rattle.std.specs.Prelude.{◌≡◌, ◌≤◌, ◌<◌, ◌-◌, ◌↔◌, IsTrue, length, Some, [], ◌∷◌, IfOk};
+ghost use Rattle.std.specs.Prelude.{◌≡◌, ◌≤◌, ◌<◌, ◌-◌, ◌↔◌, IsTrue, false, length, Some, [], ◌∷◌, IfOk};
 ghost use Rattle.elastic_ast.specs.Seen.{seen_decls};
 ghost use Rattle.elastic_ast.specs.Sizes.SizeSums.{symbols_of};
+ghost use Rattle.elastic_ast.specs.Typing.Asked.{DeclKind, has};
 ghost use Rattle.elastic_ast.specs.Typing.LookUps.{meta_fields};
 ghost use Rattle.width_check.specs.Sound.{IsSound};
 ghost use Rattle.unroll_bound.specs.HeaderUse.{AddsFields, IsUseOf, CountsHeaderBits, bits_taken};
+ghost use Rattle.unroll_bound.specs.NoUnits.{NoMainNoUnits};
 
+use crate::header_types::headers_bits;
 use elastic_ast::{Decl, Field};
 use elx_bits::Name;
 use size_terms::Places;
@@ -60,20 +63,28 @@ fn metadata(checked: &Checked) -> &[Field]
     &[]
 }
 
-/// The header bits of a program, where `symbols` are its symbols in the order of declaration.
+/// A program without `main` has no units. It holds of the definitions, and takes no step.
+pub fn no_units_without_main()
+    ensures { NoMainNoUnits }
+{}
+
+/// The header bits of a program that declares no `main`, where `symbols` are its symbols in the order of declaration: the bits
+/// of its headers and those of its metadata.
 pub fn header_use(
     alloc: Global,
     checked: &Checked,
     symbols: &[Name],
 ) -> Result<HeaderUse, AllocError>
-    requires { symbols.now ≡ symbols_of (seen_decls checked.now) }
+    requires given { symbols.now ≡ symbols_of (seen_decls checked.now) }
+    requires no_main { has DeclKind.Main (seen_decls checked.now) ≡ false }
     ensures bits { IfOk result (λ bits. IsUseOf (seen_decls checked.now) bits) }
     ensures counts { IfOk result (λ bits. CountsHeaderBits (seen_decls checked.now) bits) }
 {
     let places = Places::of(alloc, symbols)?;
+    let fixed_bits = headers_bits(alloc, program(checked).decls.as_slice())?;
     let symbol_bits = vec![in alloc; 0u64; symbols.len()]?;
     let mut bits = HeaderUse {
-        fixed_bits: 0,
+        fixed_bits,
         symbol_bits,
     };
     add_fields(&places, &mut bits, metadata(checked));

@@ -3,6 +3,7 @@
 
 mod bounds;
 mod header;
+mod header_types;
 
 pub use bounds::{Bounds, bounds_of, feasible_sizes_have_bounds};
-pub use header::{HeaderUse, fits, header_use};
+pub use header::{HeaderUse, fits, header_use, no_units_without_main};

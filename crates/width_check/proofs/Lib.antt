@@ -4,6 +4,12 @@ pub mod Tables
 pub mod ScopeLaws
 pub mod Steps
 pub mod CheckLaws
+pub mod BrokenLaws
+pub mod WholeLaws
+pub mod FoundLaws
 pub mod SortLaws
 pub mod PowerLaws
 pub mod StatementLaws
+pub mod CallerLaws
+pub mod ActionLaws
+pub mod KindLaws

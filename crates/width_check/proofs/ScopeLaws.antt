@@ -1,62 +1,56 @@
 -- The table of a scope has the names of its declarations, each once, so a look-up finds the one declaration of a name.
-use Rattle.std.proofs.lemmas.Bool.{and_from, and_parts, not-true, or_left, or_from, or_right, or_parts}
+use Rattle.std.proofs.lemmas.Bool.{and_from, and_parts, or_left, or_right, or_parts}
 use Rattle.std.proofs.lemmas.List.{append-nil, drop_more}
 use Rattle.std.proofs.Common.{◌≡◌, ℕ, zero, suc, ◌+◌, ◌<◌, Bool, true, false, not, cond, ◌||◌, List, [], ◌∷◌, ◌++◌, map, take, drop, length, get_or, Option, Some, None, IfSome, refl, sym, ap, subst, ◌∙◌, true≢false, arith, add-one, append_assoc, is_some}
 use Rattle.std.specs.Prelude.{if◌then◌else◌, nat_eq, option_map, option_and_then}
 use Rattle.std.specs.Map.{lookup}
-use Rattle.std.specs.Cmp.Lexicographic.{pointwise, same_text}
+use Rattle.std.specs.Cmp.Lexicographic.{pointwise}
 use Rattle.std.proofs.lemmas.List.Folds.{list_any-append}
 use Rattle.std.proofs.lemmas.Grind.{flat_map-append}
 use denote.Bor.{Bor}
 use Rattle.elastic_ast.specs.declared.declarations.Decl.{Decl}
-use Rattle.elastic_ast.specs.declared.declarations.Decl.TheVariants as decl
-use Rattle.elastic_ast.specs.declared.declarations.Field.{Field}
 use Rattle.std.specs.Option.{option_copied}
 use Rattle.elastic_ast.specs.declared.rule.Rule.{Rule}
 use Rattle.elastic_ast.specs.Tree.{Name, PlainDecl}
 use Rattle.elastic_ast.specs.Seen.{seen_decl, seen_decls}
 use Rattle.elastic_ast.specs.Typing.Scope.{same, among, or_else, found, symbol_of}
-use Rattle.elastic_ast.specs.Typing.LookUps.{constant_in, header_type_in, meta_in, register_in, register_size_in}
+use Rattle.elastic_ast.specs.Typing.LookUps.{constant_in, header_type_in, register_in, register_size_in}
+use Rattle.elastic_ast.specs.Packets.MainParts.{parser_in, control_in, deparser_in}
 use Rattle.elastic_ast.specs.Typing.Demand.{Fresh, Plain, met, rule_of, first_broken, fixed_names}
 use Rattle.elastic_ast.specs.Typing.AskedOfNames.{asks_names, top_name, top_names}
-use Rattle.elastic_ast.specs.Typing.Asked.{DeclKind, is_of_kind, has, is_first}
+use Rattle.elastic_ast.specs.Typing.Asked.{DeclKind, is_of_kind, has}
 use Rattle.elastic_ast.proofs.Typing.TypedLaws.{if_none}
 use Rattle.width_check.specs.Table.{names_in, IsRefusal}
 use Rattle.width_check.specs.declared.table.Refusal.{Refusal}
-use Rattle.width_check.specs.Scoped.{entries_seen, with_decl, names_with, named_decls, are_new, are_distinct, before_of, next_names, name_broken, StandsUnder}
+use Rattle.width_check.specs.Scoped.{entries_seen, before_of, next_names, name_broken, StandsUnder}
+use Rattle.program_names.specs.TopNames.{with_decl, names_with, named_decls}
+use Rattle.program_names.proofs.NewNames.{among-append, new-append, not_among}
+use Rattle.program_names.proofs.TopLaws.{first_name, names_named}
+use Rattle.program_names.specs.Distinct.{are_new, are_distinct}
 
 -- one step through the declarations
 pub drop_suc : {A : Type 0} (xs : List A) (i : ℕ) (x : A) → i < length xs → x ≡ get_or xs i x → drop i xs ≡ x ∷ drop (i + 1) xs
 drop_suc xs i x h e = drop_more xs i x h ∙ ap (λ z. z ∷ drop (i + 1) xs) (sym e)
 
-take_suc : (ds : List Decl) (i : ℕ) (d : Decl) → i < length ds → d ≡ get_or ds i d → seen_decls (take (suc i) ds) ≡ seen_decls (take i ds) ++ seen_decl d ∷ []
-take_suc [] i d h e = absurd (omega arith)
-take_suc (x ∷ ds) zero d h e = ap (λ z. seen_decl z ∷ []) (sym e)
-take_suc (x ∷ ds) (suc i) d h e = ap (λ z. seen_decl x ∷ z) (take_suc ds i d (omega arith) e)
+take_suc : {X Y : Type 0} (seen : X → Y) (xs : List X) (i : ℕ) (x : X) → i < length xs → x ≡ get_or xs i x → map seen (take (suc i) xs) ≡ map seen (take i xs) ++ seen x ∷ []
+take_suc seen [] i x h e = absurd (omega arith)
+take_suc seen (y ∷ ys) zero x h e = ap (λ z. seen z ∷ []) (sym e)
+take_suc seen (y ∷ ys) (suc i) x h e = ap (λ z. seen y ∷ z) (take_suc seen ys i x (omega arith) e)
+
+-- the elements up to one, as they are seen
+pub take_seen : {X Y : Type 0} (seen : X → Y) (xs : List X) (i : ℕ) (x : X) → i < length xs → x ≡ get_or xs i x → map seen (take (i + 1) xs) ≡ map seen (take i xs) ++ seen x ∷ []
+take_seen seen xs i x h e = ap (λ k. map seen (take k xs)) (add-one i) ∙ take_suc seen xs i x h e
 
 pub step_next : (ds : List Decl) (i : ℕ) (d : Decl) → i < length ds → d ≡ get_or ds i d → next_names (drop i ds) ≡ top_name (seen_decl d)
 step_next ds i d h e = ap next_names (drop_suc ds i d h e)
 
 pub step_take : (ds : List Decl) (i : ℕ) (d : Decl) → i < length ds → d ≡ get_or ds i d → seen_decls (take (i + 1) ds) ≡ seen_decls (take i ds) ++ seen_decl d ∷ []
-step_take ds i d h e = ap (λ k. seen_decls (take k ds)) (add-one i) ∙ take_suc ds i d h e
+step_take = take_seen seen_decl
 
 -- the names of the table
-first_name : Name × PlainDecl → Name
-first_name entry = entry.0
-
 names_seen : (es : List (Bor (List ℕ) × Bor Decl)) → names_in es ≡ map first_name (entries_seen es)
-unfolding first_name
 names_seen [] = refl
 names_seen (e ∷ es) = ap (λ z. e.0.now ∷ z) (names_seen es)
-
-names_paired : (d : PlainDecl) (ns : List Name) (rest : List (Name × PlainDecl)) → map first_name (map (with_decl d) ns ++ rest) ≡ ns ++ map first_name rest
-unfolding first_name
-names_paired d [] rest = refl
-names_paired d (n ∷ ns) rest = ap (λ z. n ∷ z) (names_paired d ns rest)
-
-names_named : (ds : List PlainDecl) → map first_name (named_decls ds) ≡ top_names ds
-names_named [] = refl
-names_named (d ∷ ds) = names_paired d (top_name d) (named_decls ds) ∙ ap (λ z. top_name d ++ z) (names_named ds)
 
 pub names_of_table : (es : List (Bor (List ℕ) × Bor Decl)) (ds : List PlainDecl) → entries_seen es ≡ named_decls ds → names_in es ≡ top_names ds
 names_of_table es ds h = names_seen es ∙ ap (map first_name) h ∙ names_named ds
@@ -75,32 +69,10 @@ new_names allow before (n ∷ ns) h =
     here : (met allow (Fresh before n) ≡ true) × (first_broken allow (Plain n ∷ asks_names (before ++ n ∷ []) ns) ≡ None)
     here = if_none (met allow (Fresh before n)) (rule_of (Fresh before n)) (first_broken allow (Plain n ∷ asks_names (before ++ n ∷ []) ns)) h
 
-new-append : (before xs ys : List Name) → are_new before xs ≡ true → are_new (before ++ xs) ys ≡ true → are_new before (xs ++ ys) ≡ true
-new-append before [] ys p q = ap (λ z. are_new z ys) (sym (append-nil before)) ∙ q
-new-append before (x ∷ xs) ys p q =
-    and_from (not (among before x)) (are_new (before ++ x ∷ []) (xs ++ ys)) ((and_parts (not (among before x)) (are_new (before ++ x ∷ []) xs) p).0)
-    (new-append (before ++ x ∷ []) xs ys ((and_parts (not (among before x)) (are_new (before ++ x ∷ []) xs) p).1) (ap (λ z. are_new z ys) (append_assoc before (x ∷ []) xs) ∙ q))
-
 pub distinct_step : (allow : Bool) (ds : List PlainDecl) (x : PlainDecl) (known : List Name) → first_broken allow (asks_names known (top_name x)) ≡ None → known ≡ top_names ds → are_distinct (top_names ds) ≡ true → are_distinct (top_names (ds ++ x ∷ [])) ≡ true
 distinct_step allow ds x known fresh h p =
     ap are_distinct (flat_map-append top_name ds (x ∷ []) ∙ ap (λ z. top_names ds ++ z) (append-nil (top_name x)))
     ∙ new-append [] (top_names ds) (top_name x) p (ap (λ z. are_new z (top_name x)) (sym h) ∙ new_names allow known (top_name x) fresh)
-
--- what a list of names has before it stands in none of its names
-or_last : (a b : Bool) → (a || b) ≡ true → a ≡ false → b ≡ true
-or_last true b h e = absurd (true≢false e)
-or_last false b h e = h
-
-among-append : (n : Name) (xs ys : List Name) → among (xs ++ ys) n ≡ (among xs n || among ys n)
-among-append n xs ys = list_any-append (same n) xs ys
-
-not_among : (n : Name) (before ns : List Name) → are_new before ns ≡ true → among before n ≡ true → among ns n ≡ false
-not_among n before [] p h = refl
-not_among n before (m ∷ ms) p h = by (same n m) refl (not_among n (before ++ m ∷ []) ms ((and_parts (not (among before m)) (are_new (before ++ m ∷ []) ms) p).1) (among-append n before (m ∷ []) ∙ or_left (among before n) (among (m ∷ []) n) h))
-  where
-    by : (b : Bool) → same n m ≡ b → among ms n ≡ false → (same n m || among ms n) ≡ false
-    by true e later = absurd (true≢false (sym h ∙ ap (among before) (same_text n m (sym e)) ∙ not-true (among before m) ((and_parts (not (among before m)) (are_new (before ++ m ∷ []) ms) p).0)))
-    by false e later = or_from (same n m) (among ms n) e later
 
 or_none : {A : Type 0} (a : Option A) → or_else a None ≡ a
 or_none None = refl
@@ -165,6 +137,18 @@ quiet_size : (n : Name) (x : PlainDecl) → among (top_name x) n ≡ false → r
 quiet_size n (PlainDecl.Register m width cells size) h = ap (λ b. if b then Some size else None) ((or_parts (same n m) false h).0)
 quiet_size n _ h = refl
 
+quiet_parser : (n : Name) (x : PlainDecl) → among (top_name x) n ≡ false → parser_in n x ≡ None
+quiet_parser n (PlainDecl.Parser m states) h = ap (λ b. if b then Some states else None) ((or_parts (same n m) false h).0)
+quiet_parser n _ h = refl
+
+quiet_control : (n : Name) (x : PlainDecl) → among (top_name x) n ≡ false → control_in n x ≡ None
+quiet_control n (PlainDecl.Control m locals body) h = ap (λ b. if b then Some body else None) ((or_parts (same n m) false h).0)
+quiet_control n _ h = refl
+
+quiet_deparser : (n : Name) (x : PlainDecl) → among (top_name x) n ≡ false → deparser_in n x ≡ None
+quiet_deparser n (PlainDecl.Deparser m emits) h = ap (λ b. if b then Some emits else None) ((or_parts (same n m) false h).0)
+quiet_deparser n _ h = refl
+
 seen_lookup : (n : Name) (es : List (Bor (List ℕ) × Bor Decl)) → option_map (λ d. seen_decl d.now) (lookup (λ k. pointwise nat_eq n k.now) es) ≡ lookup (same n) (entries_seen es)
 seen_lookup n [] = refl
 seen_lookup n (e ∷ es) = by (same n e.0.now) (seen_lookup n es)
@@ -208,6 +192,9 @@ stands_under n m es inside place o a b h p e = record {
   header = by (header_type_in n) (quiet_header n);
   register = by (register_in n) (quiet_register n);
   size = by (register_size_in n) (quiet_size n);
+  parser = by (parser_in n) (quiet_parser n);
+  control = by (control_in n) (quiet_control n);
+  deparser = by (deparser_in n) (quiet_deparser n);
 }
   where
     copied : (o : Option (Bor Decl)) → option_map seen_decl (option_copied o) ≡ option_map (λ d. seen_decl d.now) o
@@ -249,22 +236,3 @@ found_step pick ds x after known a h = ap (λ z. or_else z (pick x)) h ∙ sym (
     found_last : (ds : List PlainDecl) → found pick (ds ++ x ∷ []) ≡ or_else (found pick ds) (pick x)
     found_last [] = or_none (pick x)
     found_last (d ∷ ds) = ap (or_else (pick d)) (found_last ds) ∙ or_assoc (pick d) (found pick ds) (pick x)
-
--- the metadata are the first where their fields aren't found
-pub first_metadata : (inside place : List Decl × ℕ) (metadata : Option (Bor (List Field))) (d : Decl) (fields : List Field) (first : Bool) → is_some metadata ≡ not first → option_copied metadata ≡ found meta_in (before_of inside) → inside ≡ place → d ≡ decl.Meta fields
-    → first ≡ is_first (before_of place) (seen_decl d)
-first_metadata inside place metadata d fields first t h e k =
-    turned first (is_some metadata) t ∙ ap not (copied metadata ∙ ap is_some h ∙ found_has (before_of inside)) ∙ ap (λ z. not (has DeclKind.Metadata (before_of z))) e ∙ ap (λ z. is_first (before_of place) (seen_decl z)) (sym k)
-  where
-    turned : (a b : Bool) → b ≡ not a → a ≡ not b
-    turned true b e = ap not (sym e)
-    turned false b e = ap not (sym e)
-
-    copied : (o : Option (Bor (List Field))) → is_some o ≡ is_some (option_copied o)
-    copied None = refl
-    copied (Some x) = refl
-
-    found_has : (ds : List PlainDecl) → is_some (found meta_in ds) ≡ has DeclKind.Metadata ds
-    found_has [] = refl
-    found_has (PlainDecl.Meta fields ∷ ds) = refl
-    found_has (_ ∷ ds) = found_has ds

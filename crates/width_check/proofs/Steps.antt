@@ -1,5 +1,7 @@
 -- One step through a list whose elements each ask something.
-use Rattle.std.proofs.Common.{◌≡◌, ℕ, zero, suc, ◌+◌, ◌<◌, Bool, List, [], ◌∷◌, drop, length, get_or, Option, Some, None, sym, ap, ◌∙◌, arith, add-one}
+use Rattle.std.proofs.lemmas.Bool.{and_parts}
+use Rattle.std.proofs.Common.{◌≡◌, ℕ, zero, suc, ◌+◌, ◌<◌, Bool, true, List, [], ◌∷◌, ◌++◌, drop, length, get_or, Option, Some, None, sym, ap, ◌∙◌, arith, add-one}
+use Rattle.std.specs.List.{list_all}
 use Rattle.std.specs.Prelude.{flat_map, map, Result, Ok, Err, OnOk, IfErr}
 use Rattle.elastic_ast.specs.declared.rule.Rule.{Rule}
 use Rattle.elastic_ast.specs.Typing.Scope.{or_else}
@@ -51,6 +53,23 @@ module _ {X Y : Type 0} (allow : Bool) (seen : X → Y) (f : Y → List Demand) 
       → first_broken allow (flat_map f (map seen (drop i xs))) ≡ whole → first_broken allow (flat_map f (map seen (drop (i + 1) xs))) ≡ whole
   seen_goes_on whole h e = goes_past _ _ _ whole (seen_step h e)
 
+-- the same of two lists at once, where what a pair asks stands before what the rest asks
+module _ {X Y : Type 0} (allow : Bool) (ask : X → Y → List Demand) (asks : List X → List Y → List Demand) (split : (x : X) (y : Y) (xs : List X) (ys : List Y) → asks (x ∷ xs) (y ∷ ys) ≡ ask x y ++ asks xs ys)
+    (xs : List X) (ys : List Y) (i : ℕ) (x : X) (y : Y) where
+  pair_step : i < length xs → x ≡ get_or xs i x → i < length ys → y ≡ get_or ys i y
+      → first_broken allow (asks (drop i xs) (drop i ys)) ≡ or_else (first_broken allow (ask x y)) (first_broken allow (asks (drop (i + 1) xs) (drop (i + 1) ys)))
+  pair_step h e k f =
+      ap (λ z. first_broken allow (asks z (drop i ys))) (items_drop xs i x h e) ∙ ap (λ z. first_broken allow (asks (x ∷ drop (i + 1) xs) z)) (items_drop ys i y k f)
+      ∙ ap (first_broken allow) (split x y (drop (i + 1) xs) (drop (i + 1) ys)) ∙ first-append allow (ask x y) (asks (drop (i + 1) xs) (drop (i + 1) ys))
+
+  pub pair_stops : (rule : Rule) (whole : Option Rule) → i < length xs → x ≡ get_or xs i x → i < length ys → y ≡ get_or ys i y → Some rule ≡ first_broken allow (ask x y)
+      → first_broken allow (asks (drop i xs) (drop i ys)) ≡ whole → Some rule ≡ whole
+  pair_stops rule whole h e k f = stops_here rule _ _ _ whole (pair_step h e k f)
+
+  pub pair_goes_on : (whole : Option Rule) → i < length xs → x ≡ get_or xs i x → i < length ys → y ≡ get_or ys i y → None ≡ first_broken allow (ask x y)
+      → first_broken allow (asks (drop i xs) (drop i ys)) ≡ whole → first_broken allow (asks (drop (i + 1) xs) (drop (i + 1) ys)) ≡ whole
+  pair_goes_on whole h e k f = goes_past _ _ _ whole (pair_step h e k f)
+
 -- two parts, one after the other
 pub fine_both : {T : Type 0} (r : Result T Refusal) (a b whole : Option Rule) → OnOk r (b ≡ None) → a ≡ None → whole ≡ or_else a b → OnOk r (whole ≡ None)
 fine_both (Ok x) a b whole p q e = e ∙ ap (λ z. or_else z b) q ∙ p
@@ -67,3 +86,14 @@ refused_second (Err w) a b whole p q e = refusal_along w b whole p (sym (e ∙ a
 pub refused_first : (r : Refusal) (a b whole : Option Rule) → IsRefusal r a → whole ≡ or_else a b → IsRefusal r whole
 refused_first refusal.Memory a b whole p e = tt
 refused_first (refusal.Broken rule) a b whole p e = e ∙ ap (λ z. or_else z b) p
+
+-- what holds of each item from a place on holds of that at the place, and of those behind it
+module _ {X : Type 0} (f : X → Bool) where
+  at_head : (ys zs : List X) (x : X) → ys ≡ x ∷ zs → list_all f ys ≡ true → (f x ≡ true) × (list_all f zs ≡ true)
+  at_head ys zs x e h = and_parts (f x) (list_all f zs) (sym (ap (list_all f) e) ∙ h)
+
+  pub item_all : (xs : List X) (i : ℕ) (x : X) → i < length xs → x ≡ get_or xs i x → list_all f (drop i xs) ≡ true → f x ≡ true
+  item_all xs i x h e k = (at_head (drop i xs) (drop (i + 1) xs) x (items_drop xs i x h e) k).0
+
+  pub rest_all : (xs : List X) (i : ℕ) (x : X) → i < length xs → x ≡ get_or xs i x → list_all f (drop i xs) ≡ true → list_all f (drop (i + 1) xs) ≡ true
+  rest_all xs i x h e k = (at_head (drop i xs) (drop (i + 1) xs) x (items_drop xs i x h e) k).1

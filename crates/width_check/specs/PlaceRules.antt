@@ -13,16 +13,16 @@ use Rattle.elastic_ast.specs.declared.declarations.Field.{Field}
 use Rattle.elastic_ast.specs.declared.declarations.Local.{Local}
 use Rattle.elastic_ast.specs.declared.declarations.Param.{Param}
 use Rattle.elastic_ast.specs.OperatorSorts as operators
-use Rattle.elastic_ast.specs.Tree.{Name, PlainAction, PlainLocal}
-use Rattle.elastic_ast.specs.Seen.{seen_expr, seen_exprs, seen_stmt, seen_stmts, seen_local}
-use Rattle.elastic_ast.specs.Typing.Scope.{Scope, found}
-use Rattle.elastic_ast.specs.Typing.LookUps.{action_in}
+use Rattle.elastic_ast.specs.Tree.{Name}
+use Rattle.elastic_ast.specs.Seen.{seen_expr, seen_exprs, seen_stmt, seen_stmts}
+use Rattle.elastic_ast.specs.Typing.Scope.{Scope}
 use Rattle.elastic_ast.specs.Typing.Demand.{Demand, Number, HasWidth, Alike, Cut, Indexed, first_broken}
 use Rattle.elastic_ast.specs.Typing.AskedOfNames.{asks_amount}
 use Rattle.elastic_ast.specs.Typing.AskedInExpressions.{asks_sort, index_fits, asks_index, asks_element, asks_expr, asks_bits, asks_truth}
 use Rattle.elastic_ast.specs.Typing.AskedInStatements.{asks_register_of, asks_args, is_called, action_among, asks_call, asks_loop, asks_read, asks_write, asks_stmt, asks_stmts}
 use Rattle.width_check.specs.declared.place.Place.{Place}
 use Rattle.width_check.specs.declared.types.Ty.{Ty}
+use Rattle.program_names.specs.LocalParts.{seen_locals}
 use Rattle.width_check.specs.Scoped.{before_of}
 use Rattle.width_check.specs.Placed.{seen_type, scope_at, name_now}
 
@@ -78,13 +78,6 @@ asks_called place own given args params =
 
 abbrev pub called_breaks : Bool → Place → Option (Bor Name) → Option (Bor Name) → List Expr → List Param → Option Rule
 called_breaks allow place own given args params = first_broken allow (asks_called place (option_copied own) (option_copied given) args params)
-
--- what a control declares before its body
-abbrev pub seen_locals : List Local → List PlainLocal
-seen_locals = map seen_local
-
-abbrev pub local_action : List Local → Name → Option PlainAction
-local_action locals name = found (action_in name) (seen_locals locals)
 
 abbrev pub call_breaks : Bool → Place → List Local → Name → Option (Bor Name) → List Expr → Option Rule
 call_breaks allow place locals action index args =

@@ -1,5 +1,5 @@
 -- The scope of the program after some of its declarations: the names that these declare; this project's own.
-use Rattle.std.specs.Prelude.{◌≡◌, ℕ, Bool, true, not, ◌&&◌, List, [], ◌∷◌, ◌++◌, map, flat_map, take, drop, Option, Some, None, option_map, option_and_then, find, is_some, IfSome}
+use Rattle.std.specs.Prelude.{◌≡◌, ℕ, Bool, true, List, [], ◌∷◌, map, take, drop, Option, option_map, option_and_then, find, is_some, IfSome}
 use Rattle.std.specs.Option.{option_copied}
 use denote.Bor.{Bor}
 use Rattle.elastic_ast.specs.declared.declarations.Decl.{Decl}
@@ -9,13 +9,13 @@ use Rattle.elastic_ast.specs.Tree.{Name, PlainDecl}
 use Rattle.elastic_ast.specs.Seen.{seen_decl, seen_decls}
 use Rattle.elastic_ast.specs.Typing.Scope.{same, among, found, or_else, symbol_of}
 use Rattle.elastic_ast.specs.Typing.LookUps.{constant_in, fields_of_type, header_fields, header_type_in, members_in, members_of, meta_in, width_among, register_in, register_size_in}
+use Rattle.elastic_ast.specs.Packets.MainParts.{parser_in, control_in, deparser_in}
 use Rattle.elastic_ast.specs.Typing.Demand.{first_broken}
 use Rattle.elastic_ast.specs.Typing.AskedOfNames.{asks_names, top_name, top_names}
-use Rattle.elastic_ast.specs.Typing.Asked.{DeclKind, has}
-
-abbrev pub option_list : {A : Type 0} → Option A → List A
-option_list None = []
-option_list (Some x) = x ∷ []
+use Rattle.program_names.specs.Distinct.{are_distinct}
+use Rattle.program_names.specs.TopNames.{named_decls}
+use Rattle.width_check.specs.declared.kinds.Kinds.{Kinds}
+use Rattle.width_check.specs.Kinds.{AreKinds}
 
 -- the declarations before a place
 abbrev pub before_of : List Decl × ℕ → List PlainDecl
@@ -36,29 +36,11 @@ scope_entry entry = (entry.0.now, seen_decl entry.1.now)
 abbrev pub entries_seen : List (Bor (List ℕ) × Bor Decl) → List (Name × PlainDecl)
 entries_seen = map scope_entry
 
-abbrev pub with_decl : PlainDecl → Name → Name × PlainDecl
-with_decl decl name = (name, decl)
-
-abbrev pub names_with : PlainDecl → List (Name × PlainDecl)
-names_with decl = map (with_decl decl) (top_name decl)
-
--- each declared name, with its declaration
-abbrev pub named_decls : List PlainDecl → List (Name × PlainDecl)
-named_decls = flat_map names_with
-
--- no name is among the given ones or stands twice
-abbrev pub are_new : List Name → List Name → Bool
-are_new before [] = true
-are_new before (name ∷ names) = not (among before name) && are_new (before ++ name ∷ []) names
-
-abbrev pub are_distinct : List Name → Bool
-are_distinct names = are_new [] names
-
 -- what a scope knows of the declarations before its place
-pub record HasNames (place : List Decl × ℕ) (has_utility : Bool) (headers : Option (Bor (List (Name × Name)))) (metadata : Option (Bor (List Field))) (entries : List (Bor (List ℕ) × Bor Decl)) : Type 0 where
+pub record HasNames (place : List Decl × ℕ) (kinds : Kinds) (headers : Option (Bor (List (Name × Name)))) (metadata : Option (Bor (List Field))) (entries : List (Bor (List ℕ) × Bor Decl)) : Type 0 where
   pub names : entries_seen entries ≡ named_decls (before_of place)
   pub distinct : are_distinct (top_names (before_of place)) ≡ true
-  pub utility : has_utility ≡ has DeclKind.Utility (before_of place)
+  pub once : AreKinds kinds (before_of place)
   pub headers_t : option_copied headers ≡ found members_in (before_of place)
   pub meta_t : option_copied metadata ≡ found meta_in (before_of place)
 
@@ -89,3 +71,6 @@ pub record StandsUnder (name : Name) (decls : List PlainDecl) (decl : Option Pla
   pub header : found (header_type_in name) decls ≡ option_and_then (header_type_in name) decl
   pub register : found (register_in name) decls ≡ option_and_then (register_in name) decl
   pub size : found (register_size_in name) decls ≡ option_and_then (register_size_in name) decl
+  pub parser : found (parser_in name) decls ≡ option_and_then (parser_in name) decl
+  pub control : found (control_in name) decls ≡ option_and_then (control_in name) decl
+  pub deparser : found (deparser_in name) decls ≡ option_and_then (deparser_in name) decl

@@ -6,18 +6,16 @@ use Rattle.elastic_ast.specs.declared.declarations.Decl.{Decl}
 use Rattle.elastic_ast.specs.declared.declarations.Keyset.{Keyset}
 use Rattle.elastic_ast.specs.declared.declarations.Next.{Next}
 use Rattle.elastic_ast.specs.declared.declarations.State.{State}
-use Rattle.elastic_ast.specs.Tree.{Name, PlainExpr, PlainState}
+use Rattle.elastic_ast.specs.Tree.{Name, PlainExpr}
 use Rattle.elastic_ast.specs.Seen.{seen_expr, seen_keyset, seen_case, seen_next, seen_state}
 use Rattle.elastic_ast.specs.Typing.Demand.{Number, Keyed, has_width, first_broken}
 use Rattle.elastic_ast.specs.Typing.Asked.{asks_case, asks_next, asks_state}
 use Rattle.elastic_ast.specs.Typing.AskedInLocals.{asks_value, asks_set}
 use Rattle.width_check.specs.declared.types.Ty.{Ty}
+use Rattle.program_names.specs.LocalParts.{seen_states}
 use Rattle.width_check.specs.FirstRules.{each_breaks}
 use Rattle.width_check.specs.Scoped.{before_of}
 use Rattle.width_check.specs.Placed.{seen_type}
-
-abbrev pub seen_states : List State → List PlainState
-seen_states = map seen_state
 
 -- by the name of a constant, a value and a set in a width, behind the first of some declarations
 abbrev pub constant_breaks : Bool → List Decl × ℕ → Name → Ty → Option Rule

@@ -1,19 +1,21 @@
 //! What each declaration asks, over the scope before it.
 
-ghost use Rattle.std.specs.Prelude.{◌≡◌, true, OnOk, None, map};
-ghost use Rattle.elastic_ast.specs.Seen.{seen_decl};
+ghost use Rattle.std.specs.Prelude.{◌≡◌, OnOk, None, map};
 ghost use Rattle.elastic_ast.specs.Typing.Scope.{or_else};
 ghost use Rattle.elastic_ast.specs.Typing.Demand.{first_broken, from_zero, rises};
 ghost use Rattle.elastic_ast.specs.Typing.Asked.{asks_term, asks_comp, asks_pair, pair_key, asks_util, asks_field};
-ghost use Rattle.width_check.specs.FirstRules.{RefusedBy, each_breaks, field_names_break, fields_break, inside_breaks, PassesOn, symbol_breaks, steps_break};
+ghost use Rattle.width_check.specs.FirstRules.{RefusedBy, each_breaks, fields_break, utility_breaks, inside_breaks, PassesOn, symbol_breaks, steps_break};
 ghost use Rattle.width_check.specs.Scoped.{before_of};
-ghost use Rattle.width_check.specs.Supported.{is_supported};
 
+use crate::expressions::check_number;
+use crate::named_parts::field_names;
+use crate::parts::{check_cells, check_emits, check_header, check_headers_t, check_main};
+use crate::pipelines::{check_control, check_parser};
 use crate::scope::Scope;
-use crate::table::{Refusal, put};
+use crate::table::Refusal;
+use crate::types::Ty;
 use elastic_ast::{Comp, Decl, Field, LinTerm, Rule, UtilTerm};
 use elx_bits::Name;
-use indexmap::IndexMap;
 use std::alloc::Global;
 
 /// The greatest number in `assume` and `maximize`.
@@ -208,19 +210,8 @@ fn check_fields(allow_reserved: bool, scope: &Scope<'_>, fields: &[Field]) -> Op
     None
 }
 
-/// Whether the names of fields may stand in one scope.
-fn check_field_names(alloc: Global, allow_reserved: bool, fields: &[Field]) -> Result<(), Refusal>
-    ensures fresh { OnOk result (field_names_break allow_reserved fields.now ≡ None) }
-    ensures refused { RefusedBy (field_names_break allow_reserved fields.now) result }
-{
-    let mut names: IndexMap<&[u8], ()> = IndexMap::new(alloc);
-    for field in fields {
-        put(&mut names, field.name.as_slice(), (), allow_reserved)?;
-    }
-    Ok(())
-}
-
-fn refusal_of(broken: Option<Rule>) -> Result<(), Refusal>
+/// The refusal for a rule that is broken, if one is.
+pub fn refusal_of(broken: Option<Rule>) -> Result<(), Refusal>
     ensures fine { OnOk result (broken ≡ None) }
     ensures refused { RefusedBy broken result }
 {
@@ -230,6 +221,7 @@ fn refusal_of(broken: Option<Rule>) -> Result<(), Refusal>
     }
 }
 
+#[tactic(auto, using(elastic_ast::proofs::Typing::First::firsts))]
 fn check_metadata(
     alloc: Global,
     allow_reserved: bool,
@@ -239,10 +231,18 @@ fn check_metadata(
     ensures fine { PassesOn (fields_break allow_reserved scope.now fields.now) result }
     ensures refused { RefusedBy (fields_break allow_reserved scope.now fields.now) result }
 {
-    match check_field_names(alloc, allow_reserved, fields) {
-        Ok(()) => refusal_of(check_fields(allow_reserved, scope, fields)),
-        Err(refusal) => Err(refusal),
+    field_names(alloc, allow_reserved, fields)?;
+    refusal_of(check_fields(allow_reserved, scope, fields))
+}
+
+/// What the utility asks.
+fn check_maximize(allow_reserved: bool, scope: &Scope<'_>, terms: &[UtilTerm]) -> Option<Rule>
+    ensures { result ≡ utility_breaks allow_reserved scope.now terms.now }
+{
+    if terms.len() > MOST_TERMS {
+        return Some(Rule::BadTerm);
     }
+    check_utility(allow_reserved, scope, terms)
 }
 
 /// The first rule that a declaration breaks by what stands in it.
@@ -252,45 +252,46 @@ pub fn check_declaration(
     scope: &Scope<'_>,
     decl: &Decl,
 ) -> Result<(), Refusal>
-    requires { is_supported (seen_decl decl.now) ≡ true }
     ensures fine { PassesOn (inside_breaks allow_reserved scope.now decl.now) result }
     ensures refused { RefusedBy (inside_breaks allow_reserved scope.now decl.now) result }
 {
     match decl {
+        Decl::Include(_) | Decl::Symbol(_) => Ok(()),
         Decl::Assume(comps) => refusal_of(check_assume(allow_reserved, scope, comps.as_slice())),
         Decl::Maximize(terms) => {
-            if terms.as_slice().len() > MOST_TERMS {
-                return Err(Refusal::Broken(Rule::BadTerm));
-            }
-            refusal_of(check_utility(allow_reserved, scope, terms.as_slice()))
+            refusal_of(check_maximize(allow_reserved, scope, terms.as_slice()))
+        }
+        Decl::Const { width, value, .. } => {
+            refusal_of(check_number(allow_reserved, Some(*width), *value, Ty::Bare))
+        }
+        Decl::Header { fields, .. } => check_header(alloc, allow_reserved, fields.as_slice()),
+        Decl::Headers(members) => {
+            check_headers_t(alloc, allow_reserved, scope, members.as_slice())
         }
         Decl::Meta(fields) => check_metadata(alloc, allow_reserved, scope, fields.as_slice()),
-        Decl::Symbol(_) => Ok(()),
-        Decl::Include(_) => Ok(()),
-        Decl::Const {
-            name: _,
-            width: _,
-            value: _,
-        } => Ok(()),
-        Decl::Header { name: _, fields: _ } => Ok(()),
-        Decl::Headers(_) => Ok(()),
         Decl::Register {
-            name: _,
-            width: _,
-            cells: _,
-            size: _,
-        } => Ok(()),
-        Decl::Parser { name: _, states: _ } => Ok(()),
-        Decl::Control {
-            name: _,
-            locals: _,
-            body: _,
-        } => Ok(()),
-        Decl::Deparser { name: _, emits: _ } => Ok(()),
+            width,
+            cells,
+            size,
+            ..
+        } => refusal_of(check_cells(allow_reserved, scope, *width, cells, size)),
+        Decl::Parser { states, .. } => {
+            check_parser(alloc, allow_reserved, scope, states.as_slice())
+        }
+        Decl::Control { locals, body, .. } => check_control(
+            alloc,
+            allow_reserved,
+            scope,
+            locals.as_slice(),
+            body.as_slice(),
+        ),
+        Decl::Deparser { emits, .. } => {
+            refusal_of(check_emits(allow_reserved, scope, emits.as_slice()))
+        }
         Decl::Main {
-            parser: _,
-            control: _,
-            deparser: _,
-        } => Ok(()),
+            parser,
+            control,
+            deparser,
+        } => refusal_of(check_main(allow_reserved, scope, parser, control, deparser)),
     }
 }

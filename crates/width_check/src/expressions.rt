@@ -97,7 +97,13 @@ pub fn unless(met: bool, rule: Rule) -> Option<Rule>
     if met { None } else { Some(rule) }
 }
 
-fn check_number(allow_reserved: bool, width: Option<u8>, number: u128, giver: Ty) -> Option<Rule>
+/// What a number asks, which has a width of its own or is given one.
+pub fn check_number(
+    allow_reserved: bool,
+    width: Option<u8>,
+    number: u128,
+    giver: Ty,
+) -> Option<Rule>
     ensures { result ≡ first_broken allow_reserved (asks_number width number (seen_type giver)) }
 {
     match width {

@@ -3,15 +3,18 @@
 ghost use Rattle.std.specs.Prelude.{◌≡◌, ◌%◌};
 ghost use Rattle.elastic_ast.specs.Typing.LookUps.{bits_of_fields};
 ghost use Rattle.elastic_ast.specs.Typing.Asked.{asks_width};
-ghost use Rattle.width_check.specs.FirstRules.{each_breaks};
-ghost use Rattle.width_check.specs.PartRules.{widths_break, members_break, headers_break, register_decl_breaks};
+ghost use Rattle.width_check.specs.FirstRules.{each_breaks, PassesOn, RefusedBy};
+ghost use Rattle.width_check.specs.PartRules.{widths_break, members_break, headers_break, register_decl_breaks, structs_break, emits_break, main_breaks, header_breaks, headers_t_breaks};
 
-use crate::declarations::{check_symbol, either};
+use crate::declarations::{check_symbol, either, refusal_of};
 use crate::expressions::{check_amount, check_known, unless};
+use crate::named_parts::{field_names, member_names};
 use crate::scope::Scope;
+use crate::table::Refusal;
 use crate::types::is_width;
 use elastic_ast::{Amount, Field, Rule};
 use elx_bits::Name;
+use std::alloc::Global;
 
 fn check_field_widths(allow_reserved: bool, fields: &[Field]) -> Option<Rule>
     ensures { result ≡ each_breaks allow_reserved asks_width fields.now }
@@ -94,4 +97,65 @@ pub fn check_cells(
         check_amount(allow_reserved, scope, cells),
         check_symbol(allow_reserved, scope, size),
     )
+}
+
+/// What a parser or a control asks that names `headers_t` and `meta_t`.
+pub fn check_structs(allow_reserved: bool, scope: &Scope<'_>) -> Option<Rule>
+    ensures { result ≡ structs_break allow_reserved scope.now }
+{
+    unless(
+        scope.has_headers() && scope.has_metadata(),
+        Rule::UnknownName,
+    )
+}
+
+/// What a deparser asks, its name aside.
+pub fn check_emits(allow_reserved: bool, scope: &Scope<'_>, emits: &[Name]) -> Option<Rule>
+    ensures { result ≡ emits_break allow_reserved scope.now emits.now }
+{
+    if !scope.has_headers() {
+        return Some(Rule::UnknownName);
+    }
+    check_headers(allow_reserved, scope, emits)
+}
+
+/// What `main` asks.
+pub fn check_main(
+    allow_reserved: bool,
+    scope: &Scope<'_>,
+    parser: &Name,
+    control: &Name,
+    deparser: &Name,
+) -> Option<Rule>
+    ensures { result ≡ main_breaks allow_reserved scope.now parser.now control.now deparser.now }
+{
+    unless(
+        scope.is_parser(parser) && scope.is_control(control) && scope.is_deparser(deparser),
+        Rule::UnknownName,
+    )
+}
+
+/// What a header asks, its name aside.
+#[tactic(auto, using(elastic_ast::proofs::Typing::First::firsts))]
+pub fn check_header(alloc: Global, allow_reserved: bool, fields: &[Field]) -> Result<(), Refusal>
+    ensures fine { PassesOn (header_breaks allow_reserved fields.now) result }
+    ensures refused { RefusedBy (header_breaks allow_reserved fields.now) result }
+{
+    field_names(alloc, allow_reserved, fields)?;
+    refusal_of(check_widths(allow_reserved, fields))
+}
+
+/// What `headers_t` asks.
+#[tactic(auto, using(elastic_ast::proofs::Typing::First::firsts))]
+pub fn check_headers_t(
+    alloc: Global,
+    allow_reserved: bool,
+    scope: &Scope<'_>,
+    members: &[(Name, Name)],
+) -> Result<(), Refusal>
+    ensures fine { PassesOn (headers_t_breaks allow_reserved scope.now members.now) result }
+    ensures refused { RefusedBy (headers_t_breaks allow_reserved scope.now members.now) result }
+{
+    member_names(alloc, allow_reserved, members)?;
+    refusal_of(check_members(allow_reserved, scope, members))
 }

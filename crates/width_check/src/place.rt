@@ -9,8 +9,8 @@ use crate::scope::Scope;
 use elastic_ast::Param;
 use elx_bits::Name;
 
-/// Where an expression stands: behind the declarations of a scope, with which parameters, and with which index of a loop or an
-/// action around it. The sizes are those of the loops that the index may be of.
+/// Where an expression stands: behind the declarations of a scope, with which parameters, and with which index of a loop or
+/// an action around it. The sizes are those of the loops that the index may be of.
 #[derive(Clone, Copy)]
 pub struct Place<'a> {
     pub scope: &'a Scope<'a>,

@@ -1,22 +1,24 @@
 //! The names that stand in the scope of the program, after the declarations so far.
 
-ghost use Rattle.std.specs.Prelude.{◌≡◌, ◌<◌, ◌+◌, ◌==◌, ◌||◌, true, length, OnOk, OnErr, None};
+ghost use Rattle.std.specs.Prelude.{◌≡◌, ◌<◌, ◌+◌, length, OnOk, OnErr, None, is_some};
 ghost use Rattle.std.specs.Option.{option_copied};
 ghost use Rattle.elastic_ast.specs.Seen.{seen_decl};
 ghost use Rattle.elastic_ast.specs.Typing.Scope.{is_symbol as is_symbol_of, found, among};
-ghost use Rattle.elastic_ast.specs.Typing.LookUps.{members_in, meta_in, header_type_in, register_width as register_width_of, register_size as register_size_of, is_member as is_member_of, meta_field};
+ghost use Rattle.elastic_ast.specs.Typing.LookUps.{members_in, meta_in, header_type_in, register_width as register_width_of, register_size as register_size_of, is_member as is_member_of, has_headers as has_headers_of, has_meta, meta_field};
 ghost use Rattle.elastic_ast.specs.Typing.Types.{constant_width as constant_width_of};
+ghost use Rattle.elastic_ast.specs.Packets.MainParts.{parser_in, control_in, deparser_in};
 ghost use Rattle.elastic_ast.specs.Typing.AskedOfNames.{top_name, top_names};
-ghost use Rattle.elastic_ast.specs.Typing.Asked.{DeclKind, is_of_kind, is_first as is_first_of};
+ghost use Rattle.elastic_ast.specs.Typing.Asked.{is_first as is_first_of};
 ghost use Rattle.width_check.specs.FirstRules.{IsDeclared, RefusedBy, declared_breaks, PassesOn};
-ghost use Rattle.width_check.specs.Supported.{is_supported};
-ghost use Rattle.width_check.specs.Scoped.{option_list, before_of, name_broken, StandsUnder, decl_shown, found_next, member_at, type_field, header_field};
+ghost use Rattle.width_check.specs.Scoped.{before_of, name_broken, StandsUnder, decl_shown, found_next, member_at, type_field, header_field};
 
 use crate::fields::{field_named, has_member, member_named, width_among};
-use crate::table::{Refusal, put};
+use crate::kinds::Kinds;
+use crate::table::{Refusal, put_entry};
 use elastic_ast::{Decl, Field};
 use elx_bits::Name;
 use indexmap::IndexMap;
+use program_names::name_of;
 use std::alloc::Global;
 use std::marker::Model;
 
@@ -26,7 +28,7 @@ use std::marker::Model;
 pub struct Scope<'a> {
     decls: &'a [Decl],
     count: usize,
-    has_utility: bool,
+    kinds: Kinds,
     headers: Option<&'a [(Name, Name)]>,
     metadata: Option<&'a [Field]>,
     names: IndexMap<&'a [u8], &'a Decl>,
@@ -45,43 +47,7 @@ impl<'a> Model for Scope<'a> {
 
     ghost view = { λ scope. (scope.decls.now, scope.count) };
 
-    ghost invariant = { λ scope. HasNames (scope.decls.now, scope.count) scope.has_utility scope.headers scope.metadata scope.names.entries };
-}
-
-/// The name that a declaration puts into the scope of the program.
-fn name_of<'a>(decl: &'a Decl) -> Option<&'a Name>
-    ensures { option_list (option_copied result) ≡ top_name (seen_decl decl.now) }
-{
-    match decl {
-        Decl::Symbol(name) => Some(name),
-        Decl::Const {
-            name,
-            width: _,
-            value: _,
-        } => Some(name),
-        Decl::Header { name, fields: _ } => Some(name),
-        Decl::Register {
-            name,
-            width: _,
-            cells: _,
-            size: _,
-        } => Some(name),
-        Decl::Parser { name, states: _ } => Some(name),
-        Decl::Control {
-            name,
-            locals: _,
-            body: _,
-        } => Some(name),
-        Decl::Deparser { name, emits: _ } => Some(name),
-        _ => None,
-    }
-}
-
-/// Whether the utility is declared, after one more declaration.
-fn has_utility(known: bool, decl: &Decl) -> bool
-    ensures { result ≡ (known || is_of_kind DeclKind.Utility (seen_decl decl.now)) }
-{
-    known || matches!(decl, Decl::Maximize(_))
+    ghost invariant = { λ scope. HasNames (scope.decls.now, scope.count) scope.kinds scope.headers scope.metadata scope.names.entries };
 }
 
 /// The members of `headers_t`, after one more declaration.
@@ -125,7 +91,7 @@ fn declare<'a>(
     ensures kept { OnErr result (names.new.entries ≡ names.old.entries) }
 {
     match name_of(decl) {
-        Some(name) => put(names, name.as_slice(), decl, allow_reserved),
+        Some(name) => put_entry(names, name.as_slice(), decl, allow_reserved),
         None => Ok(()),
     }
 }
@@ -138,7 +104,7 @@ impl<'a> Scope<'a> {
         Scope {
             decls,
             count: 0,
-            has_utility: false,
+            kinds: Kinds::new(),
             headers: None,
             metadata: None,
             names: IndexMap::new(alloc),
@@ -158,7 +124,7 @@ impl<'a> Scope<'a> {
             Ok(()) => {}
             Err(refusal) => return Err(refusal),
         }
-        self.has_utility = has_utility(self.has_utility, decl);
+        self.kinds = self.kinds.with(decl);
         self.headers = headers_after(self.headers, decl);
         self.metadata = metadata_after(self.metadata, decl);
         self.count += 1;
@@ -167,16 +133,11 @@ impl<'a> Scope<'a> {
 
     /// Whether a declaration, if it may stand once in a program, is the first of its kind.
     pub fn is_first(&self, decl: &Decl) -> bool
-        requires { is_supported (seen_decl decl.now) ≡ true }
         ensures { result ≡ is_first_of (before_of self.now) (seen_decl decl.now) }
     {
         // A field is named, so that what holds of the fields is known.
         let _ = &self.decls;
-        match decl {
-            Decl::Maximize(_) => !self.has_utility,
-            Decl::Meta(_) => self.metadata.is_none(),
-            _ => true,
-        }
+        self.kinds.lacks(decl)
     }
 
     /// The declaration before of a name.
@@ -262,6 +223,50 @@ impl<'a> Scope<'a> {
             ) => Some(size),
             _ => None,
         }
+    }
+
+    /// Whether a name is that of a parser.
+    pub fn is_parser(&self, name: &Name) -> bool
+        ensures { result ≡ is_some (found (parser_in name.now) (before_of self.now)) }
+    {
+        match self.declared(name) {
+            Some(Decl::Parser { .. }) => true,
+            _ => false,
+        }
+    }
+
+    /// Whether a name is that of a control.
+    pub fn is_control(&self, name: &Name) -> bool
+        ensures { result ≡ is_some (found (control_in name.now) (before_of self.now)) }
+    {
+        match self.declared(name) {
+            Some(Decl::Control { .. }) => true,
+            _ => false,
+        }
+    }
+
+    /// Whether a name is that of a deparser.
+    pub fn is_deparser(&self, name: &Name) -> bool
+        ensures { result ≡ is_some (found (deparser_in name.now) (before_of self.now)) }
+    {
+        match self.declared(name) {
+            Some(Decl::Deparser { .. }) => true,
+            _ => false,
+        }
+    }
+
+    /// Whether `headers_t` is declared.
+    pub fn has_headers(&self) -> bool
+        ensures { result ≡ has_headers_of (before_of self.now) }
+    {
+        self.headers.is_some()
+    }
+
+    /// Whether `meta_t` is declared.
+    pub fn has_metadata(&self) -> bool
+        ensures { result ≡ has_meta (before_of self.now) }
+    {
+        self.metadata.is_some()
     }
 
     /// Whether a name is that of a header.

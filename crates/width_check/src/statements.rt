@@ -1,14 +1,12 @@
 //! What statements ask where they stand.
 
-ghost use Rattle.std.specs.Prelude.{◌≡◌, ◌∷◌, [], option_map};
-ghost use Rattle.std.specs.Option.{option_copied};
-ghost use Rattle.elastic_ast.specs.Seen.{seen_action};
+ghost use Rattle.std.specs.Prelude.{◌≡◌, ◌∷◌, []};
 ghost use Rattle.elastic_ast.specs.Typing.Scope.{same};
 ghost use Rattle.elastic_ast.specs.Typing.Demand.{first_broken};
 ghost use Rattle.elastic_ast.specs.Typing.AskedOfNames.{asks_names};
-ghost use Rattle.elastic_ast.specs.Typing.AskedInStatements.{no_action_name, is_table as is_table_of, register_type as register_type_of};
+ghost use Rattle.elastic_ast.specs.Typing.AskedInStatements.{no_action_name, register_type as register_type_of};
 ghost use Rattle.width_check.specs.Placed.{seen_type, scope_at};
-ghost use Rattle.width_check.specs.PlaceRules.{seen_locals, local_action, register_breaks, args_break, may_be_called, called_breaks, call_breaks, loop_breaks, looped_scope, alike_breaks, read_breaks, write_breaks, stmt_breaks, stmts_break};
+ghost use Rattle.width_check.specs.PlaceRules.{register_breaks, args_break, may_be_called, called_breaks, call_breaks, loop_breaks, looped_scope, alike_breaks, read_breaks, write_breaks, stmt_breaks, stmts_break};
 
 use crate::declarations::either;
 use crate::expressions::{
@@ -17,41 +15,14 @@ use crate::expressions::{
 use crate::place::Place;
 use crate::table::broken_name;
 use crate::types::{Ty, bits_of, is_index, lval_type, of_width};
-use elastic_ast::{Action, Expr, Local, Lval, Param, RegRef, Rule, Stmt};
+use elastic_ast::{Expr, Lval, Param, RegRef, Rule, Stmt};
 use elx_bits::Name;
+use program_names::LocalNames;
 
 /// Bits of the number of a cell.
 const CELL_NUMBER_WIDTH: u8 = 32;
 
-/// The action of a name, by a scan over the actions and tables.
-fn action_named<'a>(locals: &'a [Local], name: &Name) -> Option<&'a Action>
-    ensures { option_map seen_action (option_copied result) ≡ local_action locals.now name.now }
-{
-    for local in locals {
-        if let Local::Action(action) = local {
-            if name.as_slice() == action.name.as_slice() {
-                return Some(action);
-            }
-        }
-    }
-    None
-}
-
-/// Whether a name is that of a table, by a scan over the actions and tables.
-fn is_table(locals: &[Local], name: &Name) -> bool
-    ensures { result ≡ is_table_of (seen_locals locals.now) name.now }
-{
-    for local in locals {
-        if let Local::Table(table) = local {
-            if name.as_slice() == table.name.as_slice() {
-                return true;
-            }
-        }
-    }
-    false
-}
-
-fn is_no_action(name: &Name) -> bool
+pub fn is_no_action(name: &Name) -> bool
     ensures { result ≡ same name.now no_action_name }
 {
     name.as_slice() == b"NoAction".as_slice()
@@ -139,7 +110,7 @@ fn check_called(
 fn check_call(
     allow_reserved: bool,
     place: &Place<'_>,
-    locals: &[Local],
+    locals: &LocalNames<'_>,
     action: &Name,
     index: Option<&Name>,
     args: &[Expr],
@@ -150,7 +121,7 @@ fn check_call(
         let none: &[Param] = &[];
         return check_called(allow_reserved, place, None, index, args, none);
     }
-    match action_named(locals, action) {
+    match locals.action(action) {
         None => Some(Rule::UnknownName),
         Some(action) => {
             let own = action.index.as_ref();
@@ -247,7 +218,7 @@ fn check_write(
 pub fn check_stmt(
     allow_reserved: bool,
     place: &Place<'_>,
-    locals: &[Local],
+    locals: &LocalNames<'_>,
     stmt: &Stmt,
 ) -> Option<Rule>
     ensures { result ≡ stmt_breaks allow_reserved place.now locals.now stmt.now }
@@ -294,7 +265,7 @@ pub fn check_stmt(
             index.as_ref(),
             args.as_slice(),
         ),
-        Stmt::Apply(table) => check_known(allow_reserved, is_table(locals, table)),
+        Stmt::Apply(table) => check_known(allow_reserved, locals.table(table).is_some()),
     }
 }
 
@@ -304,7 +275,7 @@ pub fn check_stmt(
 pub fn check_stmts(
     allow_reserved: bool,
     place: &Place<'_>,
-    locals: &[Local],
+    locals: &LocalNames<'_>,
     stmts: &[Stmt],
 ) -> Option<Rule>
     ensures { result ≡ stmts_break allow_reserved place.now locals.now stmts.now }

@@ -1,10 +1,9 @@
 //! What the states of a parser ask, their names aside.
 
 ghost use Rattle.std.specs.Prelude.{◌≡◌};
-ghost use Rattle.elastic_ast.specs.Typing.Scope.{among};
-ghost use Rattle.elastic_ast.specs.Typing.ParserLoops.{state_names};
 ghost use Rattle.elastic_ast.specs.Typing.Asked.{is_state as is_state_of};
-ghost use Rattle.width_check.specs.SetRules.{seen_states, options_break, case_breaks, cases_break, next_state_breaks, state_breaks, states_break};
+ghost use Rattle.width_check.specs.SetRules.{options_break, case_breaks, cases_break, next_state_breaks, state_breaks, states_break};
+ghost use Rattle.program_names.specs.LocalParts.{seen_states};
 
 use crate::declarations::either;
 use crate::expressions::{check_expr, check_known, has_width, is_truth};
@@ -15,25 +14,14 @@ use crate::sets::check_set;
 use crate::types::{Ty, type_of};
 use elastic_ast::{Keyset, Next, Rule, State};
 use elx_bits::Name;
-
-/// Whether a name is that of a state, by a scan over the states.
-fn has_state(states: &[State], name: &Name) -> bool
-    ensures { result ≡ among (state_names (seen_states states.now)) name.now }
-{
-    for state in states {
-        if name.as_slice() == state.name.as_slice() {
-            return true;
-        }
-    }
-    false
-}
+use program_names::StateNames;
 
 /// Whether a parser may go on to a name.
-fn is_state(states: &[State], name: &Name) -> bool
+fn is_state(states: &StateNames<'_>, name: &Name) -> bool
     ensures { result ≡ is_state_of (seen_states states.now) name.now }
 {
     let text = name.as_slice();
-    text == b"accept".as_slice() || text == b"reject".as_slice() || has_state(states, name)
+    text == b"accept".as_slice() || text == b"reject".as_slice() || states.has(name)
 }
 
 /// What a case of a `select` asks.
@@ -41,7 +29,7 @@ fn is_state(states: &[State], name: &Name) -> bool
 fn check_case(
     allow_reserved: bool,
     scope: &Scope<'_>,
-    states: &[State],
+    states: &StateNames<'_>,
     width: Ty,
     case: &(Keyset, Name),
 ) -> Option<Rule>
@@ -57,7 +45,7 @@ fn check_case(
 fn check_cases(
     allow_reserved: bool,
     scope: &Scope<'_>,
-    states: &[State],
+    states: &StateNames<'_>,
     width: Ty,
     cases: &[(Keyset, Name)],
 ) -> Option<Rule>
@@ -76,7 +64,7 @@ fn check_cases(
 fn check_options(
     allow_reserved: bool,
     scope: &Scope<'_>,
-    states: &[State],
+    states: &StateNames<'_>,
     width: Ty,
     cases: &[(Keyset, Name)],
 ) -> Option<Rule>
@@ -96,7 +84,7 @@ fn check_options(
 fn check_next(
     allow_reserved: bool,
     scope: &Scope<'_>,
-    states: &[State],
+    states: &StateNames<'_>,
     next: &Next,
 ) -> Option<Rule>
     ensures { result ≡ next_state_breaks allow_reserved scope.now states.now next.now }
@@ -122,7 +110,7 @@ fn check_next(
 fn check_state(
     allow_reserved: bool,
     scope: &Scope<'_>,
-    states: &[State],
+    states: &StateNames<'_>,
     state: &State,
 ) -> Option<Rule>
     ensures { result ≡ state_breaks allow_reserved scope.now states.now state.now }
@@ -133,12 +121,17 @@ fn check_state(
     )
 }
 
-/// The first rule that the states of a parser break.
+/// The first rule that some of the states of a parser break.
 #[tactic(auto, using(elastic_ast::proofs::Typing::First::firsts))]
-pub fn check_states(allow_reserved: bool, scope: &Scope<'_>, states: &[State]) -> Option<Rule>
-    ensures { result ≡ states_break allow_reserved scope.now states.now states.now }
+pub fn check_states(
+    allow_reserved: bool,
+    scope: &Scope<'_>,
+    states: &StateNames<'_>,
+    each: &[State],
+) -> Option<Rule>
+    ensures { result ≡ states_break allow_reserved scope.now states.now each.now }
 {
-    for state in states {
+    for state in each {
         match check_state(allow_reserved, scope, states, state) {
             Some(rule) => return Some(rule),
             None => {}

@@ -3,11 +3,13 @@
 ghost use Rattle.std.specs.Prelude.{◌≡◌, [], ◌∷◌, ◌++◌, OnErr, OnOk};
 ghost use Rattle.elastic_ast.specs.Typing.Scope.{among};
 ghost use Rattle.elastic_ast.specs.Typing.Demand.{has_underscores as has_underscores_of, fixed_names};
-ghost use Rattle.width_check.specs.FirstRules.{RefusedBy, name_breaks};
+ghost use Rattle.width_check.specs.FirstRules.{RefusedBy, name_breaks, one_breaks};
 ghost use Rattle.width_check.specs.Table.{name_rule};
 
 use elastic_ast::Rule;
+use elx_bits::Name;
 use indexmap::IndexMap;
+use program_names::NamePlaces;
 
 /// Why a declaration is refused: a rule that it breaks, or no memory.
 #[derive(Clone, Copy, Debug, PartialEq, Eq)]
@@ -65,8 +67,25 @@ pub fn broken_name(allow_reserved: bool, known: bool, name: &[u8]) -> Option<Rul
     }
 }
 
+/// Adds a name to those of its scope, if it may be declared there. Else they stay.
+pub fn put(names: &mut NamePlaces, name: &Name, allow_reserved: bool) -> Result<(), Refusal>
+    ensures added { OnOk result (names.new ≡ names.old ++ name.now ∷ []) }
+    ensures fresh { OnOk result (one_breaks allow_reserved names.old name.now ≡ None) }
+    ensures refused { RefusedBy (one_breaks allow_reserved names.old name.now) result }
+    ensures kept { OnErr result (names.new ≡ names.old) }
+{
+    let known = names.has(name);
+    if let Some(rule) = broken_name(allow_reserved, known, name.as_slice()) {
+        return Err(Refusal::Broken(rule));
+    }
+    if names.add(name).is_err() {
+        return Err(Refusal::Memory);
+    }
+    Ok(())
+}
+
 /// Adds a name to its scope, if it may be declared there. Else the scope stays.
-pub fn put<'a, V: Drop>(
+pub fn put_entry<'a, V: Drop>(
     names: &mut IndexMap<&'a [u8], V>,
     name: &'a [u8],
     value: V,

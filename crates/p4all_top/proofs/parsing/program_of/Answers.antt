@@ -10,7 +10,7 @@ pub returns-in-Ok-check : goal.returns-in-Ok-check
 returns-in-Ok-check c =
     let read : IsParsed c.args.text.now c.in-Ok.tokens c.as_slice.result.now c.in-Ok-parse.parsed =
     record { of = c.in-Ok.ensures.tokens; same = c.as_slice.ensures; only = c.in-Ok-parse.ensures.only; spelled = c.in-Ok-parse.ensures.spelled; few = c.in-Ok-parse.ensures.operators } in
-    only_program c.args.text.now c.in-Ok.tokens c.as_slice.result.now c.in-Ok-parse.parsed c.in-Ok-check.checked read c.in-Ok-check.ensures.same c.in-Ok-check.ensures.typed c.program.ensures.sound.supported
+    only_program c.args.text.now c.in-Ok.tokens c.as_slice.result.now c.in-Ok-parse.parsed c.in-Ok-check.checked read c.in-Ok-check.ensures.same c.in-Ok-check.ensures.typed
 
 pub returns : goal.returns
 returns c =

@@ -2,7 +2,7 @@ use Rattle.elastic_ast.specs.Seen.{seen_case}
 use Rattle.elastic_ast.specs.Typing.Asked.{asks_case}
 use Rattle.width_check.specs.Scoped.{before_of}
 use Rattle.width_check.specs.Placed.{seen_type}
-use Rattle.width_check.specs.SetRules.{seen_states}
+use Rattle.program_names.specs.LocalParts.{seen_states}
 use Rattle.width_check.proofs.Steps.{seen_stops, seen_goes_on}
 use Rattle.width_check.proofs.states.check_cases.Goals as goal
 

@@ -1,5 +1,11 @@
-use Rattle.width_check.proofs.ScopeLaws.{first_metadata}
+use Rattle.std.proofs.Common.{ap, ◌∙◌}
+use Rattle.elastic_ast.specs.Seen.{seen_decl}
+use Rattle.elastic_ast.specs.Typing.Asked.{is_first}
+use Rattle.width_check.specs.Scoped.{before_of}
+use Rattle.width_check.proofs.KindLaws.{first_by_kinds}
 use Rattle.width_check.proofs.scope.Scope.is_first.Goals as goal
 
-pub returns-in-Meta : goal.returns-in-Meta
-returns-in-Meta c = first_metadata (c.self.inside.decls.now, c.self.inside.count) c.args.self.now c.self.inside.metadata c.args.decl.now c.in-Meta.field-0 c.is_none.result c.is_none.ensures c.self.invariant.meta_t c.self.view_is c.in-Meta.is
+pub returns : goal.returns
+returns c =
+    c.lacks.ensures ∙ first_by_kinds c.self.inside.kinds (before_of (c.self.inside.decls.now, c.self.inside.count)) (seen_decl c.args.decl.now) c.self.invariant.once
+    ∙ ap (λ place. is_first (before_of place) (seen_decl c.args.decl.now)) c.self.view_is

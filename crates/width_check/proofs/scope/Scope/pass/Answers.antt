@@ -1,13 +1,15 @@
 use Rattle.std.proofs.Common.{◌≡◌, ◌<◌, ℕ, List, length, get_or, sym, ap, subst, ◌∙◌}
 use Rattle.elastic_ast.specs.declared.declarations.Decl.{Decl}
 use Rattle.elastic_ast.specs.Seen.{seen_decl}
-use Rattle.elastic_ast.specs.Typing.Asked.{DeclKind}
+use Rattle.width_check.proofs.KindLaws.{kinds_step}
 use Rattle.elastic_ast.specs.Typing.AskedOfNames.{top_names}
 use Rattle.std.specs.Option.{option_copied}
 use Rattle.elastic_ast.specs.Typing.LookUps.{members_in, meta_in}
 use Rattle.width_check.specs.Table.{names_in}
-use Rattle.width_check.specs.Scoped.{before_of, entries_seen, named_decls, are_distinct}
-use Rattle.width_check.proofs.ScopeLaws.{step_take, names_of_table, table_step, distinct_step, next_broken, refused_next, has_step, found_step}
+use Rattle.width_check.specs.Scoped.{before_of, entries_seen}
+use Rattle.program_names.specs.TopNames.{named_decls}
+use Rattle.program_names.specs.Distinct.{are_distinct}
+use Rattle.width_check.proofs.ScopeLaws.{step_take, names_of_table, table_step, distinct_step, next_broken, refused_next, found_step}
 use Rattle.width_check.proofs.scope.Scope.pass.Goals as goal
 
 within : (inside place : List Decl × ℕ) → inside ≡ place → place.1 < length place.0 → inside.1 < length inside.0
@@ -33,7 +35,7 @@ invariant_of-self-2 c =
       names = table_step (before_of inside) (seen_decl decl) (entries_seen c.self.inside.names.entries) (entries_seen c.declare.new.names.entries) c.in-Ok.ensures.added c.self.invariant.names ∙ ap named_decls (sym taken);
       distinct = ap (λ z. are_distinct (top_names z)) taken
           ∙ distinct_step c.args.allow_reserved (before_of inside) (seen_decl decl) (names_in c.self.inside.names.entries) c.in-Ok.ensures.fresh (names_of_table c.self.inside.names.entries (before_of inside) c.self.invariant.names) c.self.invariant.distinct;
-      utility = c.has_utility-self-inside.ensures ∙ has_step DeclKind.Utility (before_of inside) (seen_decl decl) _ c.self.inside.has_utility taken c.self.invariant.utility;
+      once = kinds_step c.self.inside.kinds c.with-self-inside.result (before_of inside) (seen_decl decl) _ c.with-self-inside.ensures taken c.self.invariant.once;
       headers_t = c.headers_after-self-inside.ensures ∙ found_step members_in (before_of inside) (seen_decl decl) _ (option_copied c.self.inside.headers) taken c.self.invariant.headers_t;
       meta_t = c.metadata_after-self-inside.ensures ∙ found_step meta_in (before_of inside) (seen_decl decl) _ (option_copied c.self.inside.metadata) taken c.self.invariant.meta_t;
     }

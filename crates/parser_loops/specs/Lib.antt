@@ -1,0 +1,3 @@
+pub mod Transitions
+pub mod Shown
+pub mod Searching

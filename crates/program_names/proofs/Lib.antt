@@ -1,0 +1,4 @@
+pub mod NewNames
+pub mod Places
+pub mod LocalLaws
+pub mod TopLaws

@@ -1,0 +1,4 @@
+pub mod Distinct
+pub mod Named
+pub mod LocalParts
+pub mod TopNames

@@ -1,0 +1,12 @@
+//! The names of a program's parts, and what stands under each.
+#![tactic(auto)]
+
+mod local_names;
+mod name_places;
+mod names;
+mod state_names;
+
+pub use local_names::LocalNames;
+pub use name_places::{NamePlaces, thing_named};
+pub use names::{Names, name_of};
+pub use state_names::StateNames;

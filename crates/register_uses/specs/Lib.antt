@@ -1,0 +1,6 @@
+pub mod Summaries
+pub mod Uses
+pub mod FirstNamed
+pub mod LocalTables
+pub mod Walks
+pub mod HasUses
