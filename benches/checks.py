@@ -104,16 +104,26 @@ def actions(count):
     )
 
 
-def symbols(count):
-    """Symbols, and five times as many comparisons of two of them."""
-    names = [named("y", i) for i in range(count)]
-    comparisons = []
-    for round_number in range(5):
-        step = 1 + round_number * 7
-        for i in range(count):
-            comparisons.append(f"assume({names[i]} + {names[(i + step) % count]} <= {1000 + i % 10});")
+def sizes(symbols, comparisons):
+    """Symbols, and comparisons of two of them."""
+    names = [named("y", i) for i in range(symbols)]
     declared = "\n".join(f"symbolic int {name};" for name in names)
-    return declared + "\n" + "\n".join(comparisons) + f"\nmaximize({names[0]});\n"
+    compared = []
+    for number in range(comparisons):
+        turn, i = divmod(number, symbols)
+        other = names[(i + 1 + turn * 7) % symbols]
+        compared.append(f"assume({names[i]} + {other} <= {1000 + i % 10});")
+    return declared + "\n" + "\n".join(compared) + f"\nmaximize({names[0]});\n"
+
+
+def comparisons(count):
+    """Comparisons over 2000 symbols."""
+    return sizes(2000, count)
+
+
+def symbols(count):
+    """Symbols, and five times as many comparisons."""
+    return sizes(count, 5 * count)
 
 
 SOURCES = [
@@ -121,6 +131,7 @@ SOURCES = [
     ("entries", entries, 100000),
     ("states", states, 20000),
     ("actions", actions, 5000),
+    ("comparisons", comparisons, 10000),
     ("symbols", symbols, 2000),
 ]
 
@@ -172,7 +183,7 @@ def measure(name, make, count, folder):
             seconds, memory, status, said = run(source, output)
         times = "" if before is None else f"{seconds / before:6.2f}"
         print(
-            f"{name:10} {count * factor:7} {size:9} {seconds:9.2f} {memory:8.0f} {times:>6}  {said} (status {status})",
+            f"{name:11} {count * factor:7} {size:9} {seconds:9.2f} {memory:8.0f} {times:>6}  {said} (status {status})",
             flush=True,
         )
         before = seconds
@@ -192,7 +203,7 @@ def main():
         return
     if not os.access(PROGRAM, os.X_OK):
         sys.exit("The program isn't built yet: run ./p4all size SRC TARGET once.")
-    print(f"{'source':10} {'count':>7} {'bytes':>9} {'seconds':>9} {'MB':>8} {'times':>6}  printed")
+    print(f"{'source':11} {'count':>7} {'bytes':>9} {'seconds':>9} {'MB':>8} {'times':>6}  printed")
     with tempfile.TemporaryDirectory() as folder:
         for name, make, count in chosen:
             measure(name, make, count, folder)

@@ -24,6 +24,8 @@ use Rattle.unroll_bound.specs.declared.header.HeaderUse.{HeaderUse}
 use Rattle.box_listing.specs.declared.choosing.Choice.{Choice}
 use Rattle.box_listing.specs.declared.choosing.Choice.TheVariants as choice
 use Rattle.unroll_bound.specs.declared.bounds.Bounds.TheVariants as bounds
+use Rattle.dep_graph.proofs.WithoutUnits.{feasible_without_units}
+use Rattle.unroll_bound.proofs.UnitLaws.{no_units}
 use Rattle.unroll_bound.proofs.UseLaws.{taken_law}
 use Rattle.unroll_bound.proofs.WithinLaws.{bounds_law}
 use Rattle.box_listing.proofs.ListingLaws.{length_point, numbered}
@@ -36,12 +38,9 @@ pub record Given (decls : List PlainDecl) (terms : Terms) (target : Target) (bit
   pub small : target.header_bits < 2 ^ 64 - 1
 
 feasible : (decls : List PlainDecl) (terms : Terms) (target : Target) (bits : HeaderUse) → Given decls terms target bits → (sizes : List ℕ) → length sizes ≡ length (symbols_of decls) → IsOpen terms bits target.header_bits sizes → Feasible decls target sizes []
-feasible decls terms target bits given sizes sized good = record {
-  sized = sized;
-  assumed = (given.terms_are.assumes sizes).0 good.holds;
-  placed = refl;
-  header = (taken_law decls bits target.header_bits sizes given.use_is given.small).0 good.header;
-}
+feasible decls terms target bits given sizes sized good =
+    feasible_without_units decls target sizes (no_units decls given.no_main) sized ((given.terms_are.assumes sizes).0 good.holds)
+    ((taken_law decls bits target.header_bits sizes given.use_is given.small).0 good.header)
 
 opened : (decls : List PlainDecl) (terms : Terms) (target : Target) (bits : HeaderUse) → Given decls terms target bits → (sizes : List ℕ) (placement : List At) → Feasible decls target sizes placement → IsOpen terms bits target.header_bits sizes
 opened decls terms target bits given sizes placement good = record {

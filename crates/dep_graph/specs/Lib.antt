@@ -1,4 +1,10 @@
--- The header bits of a program, the sizes and placements that are feasible on a target, and the best of them.
+-- What a program may be given on a target: instances in stages and what they take there, the header bits of the program, feasible
+-- sizes and placements, and the best of them.
+pub mod SeenRelation
+pub mod OrderAtIndices
+pub mod Laid
+pub mod Use
 pub mod HeaderBits
+pub mod PlacementRules
 pub mod Feasible
 pub mod Optimum

@@ -1,4 +1,4 @@
--- The best sizes of a program on a target, of all that there are; this project's own.
+-- The best sizes and placement of a program on a target, of all that there are; this project's own.
 use Rattle.std.specs.Prelude.{ℕ, List, ◌≤ℤ◌}
 use Rattle.elastic_ast.specs.declared.flat.At.{At}
 use Rattle.elastic_ast.specs.Tree.{PlainProgram}

@@ -1,3 +1,9 @@
-//! What a program may be given on a target: the header bits that it takes, feasible sizes and placements, and the best of them.
-//! The definitions stand here; the order of instances and the use of stages come with the crates that place units.
+//! What a program may be given on a target: the order of two instances of its units, what instances take of a stage and sizes of the
+//! header, feasible sizes and placements, and the best of them.
 #![tactic(auto)]
+
+mod relation;
+mod resource;
+
+pub use relation::{Relation, order, order_at_indices};
+pub use resource::Resource;

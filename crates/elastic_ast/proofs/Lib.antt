@@ -4,3 +4,5 @@ pub mod SeenLaws
 pub mod Typing
 -- Vectors, registers and the index of registers.
 pub mod Containers
+-- Locations that are the same.
+pub mod SameLocations

@@ -12,6 +12,7 @@ mod slot;
 mod statements;
 mod vector;
 
+pub use chains::Chains;
 pub use declarations::{
     Action, Comp, Decl, Entry, Field, Key, Keyset, LinTerm, Local, Next, Param, Program, Rel,
     State, Table, UtilTerm,
@@ -20,6 +21,7 @@ pub use flat::{
     At, Cells, Linear, Lit, Location, Out, Packet, Placement, Sizes, Steps, Terms, Unit, Units,
     Work,
 };
+pub use location_ref::{LocationRef, parts};
 pub use registers::Registers;
 pub use rule::Rule;
 pub use statements::{Amount, Expr, Lval, RegRef, Stmt};

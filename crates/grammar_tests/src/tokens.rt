@@ -2,7 +2,8 @@
 
 use case_table::distinct;
 use elx_bits::Items;
-use p4_lexer::{Kind, LexError, OPERATORS, RESERVED, SIGNS, Token, lex};
+use operator_table::OPERATORS;
+use p4_lexer::{Kind, LexError, RESERVED, SIGNS, Token, lex};
 use std::alloc::Global;
 
 fn tokens_of(alloc: Global, text: &str) -> Result<Items<Token>, LexError> {

@@ -4,11 +4,11 @@ use Rattle.std.proofs.Common.{◌≡◌, ℕ, zero, suc, ◌<◌, ◌^◌, IsTru
 use Rattle.p4_lexer.specs.declared.token.Kind.{Kind}
 use Rattle.p4_lexer.specs.declared.token.Kind.TheVariants as kind
 use Rattle.elastic_ast.specs.Tree.{PlainExpr}
-use Rattle.elastic_ast.specs.OperatorSorts.{Operator, ShiftDown, operators}
+use Rattle.elastic_ast.specs.OperatorSorts.{Operator, ShiftDown, operators, operator_code}
 use Rattle.spelling.specs.Words.{Word}
 use Rattle.spelling.specs.Grammar as grammar
 use Rattle.spelling.specs.Grammar.{Grammar, Sequence, One, IsSign, IsReserved, IsNamed, IsNum}
-use Rattle.p4_expr.specs.Operators.{IsOperator, SpellsOperator, code_of, level_of}
+use Rattle.p4_expr.specs.Operators.{IsOperator, SpellsOperator, level_of}
 use Rattle.p4_expr.specs.Parts.{SpellsBitRange, SpellsCast}
 use Rattle.p4_expr.specs.Expressions.{SpellsLevel, SpellsPrefixed, SpellsPrimary}
 
@@ -45,7 +45,7 @@ name_last text w h e = word_last w (h, e)
 pub touching : (one two : Word) → one.kind ≡ kind.Sign 7 → one.piece ≡ codes ">" → two.kind ≡ kind.Sign 7 → two.piece ≡ codes ">" → one.end ≡ two.at → SpellsOperator ShiftDown (one ∷ two ∷ [])
 touching one two h e k f touch = record { one = one; other = two; both = refl; is_first = is_sign (codes ">") 7 one h e; is_second = is_sign (codes ">") 7 two k f; touch = touch }
 
-pub is_coded : (operator : Operator) → slice_get operators (code_of operator) ≡ Some operator → IsOperator (level_of operator) (code_of operator) operator
+pub is_coded : (operator : Operator) → slice_get operators (operator_code operator) ≡ Some operator → IsOperator (level_of operator) (operator_code operator) operator
 is_coded op coded = record { coded = coded; level_is = refl }
 
 -- the bounds of a slice, and a cast, word by word

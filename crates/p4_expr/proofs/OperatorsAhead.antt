@@ -1,11 +1,11 @@
 -- Which operator stands first.
 use Rattle.std.proofs.Common.{◌≡◌, ℕ, zero, suc, ◌+◌, ◌≤◌, Bool, true, false, bytes_eq, cond, List, Some, None, [], ◌∷◌, codes, refl, sym, ap, subst, ◌∙◌, arith, inl, inr, ◌⊎◌}
 use Rattle.std.specs.Prelude.{slice_get}
-use Rattle.elastic_ast.specs.OperatorSorts.{Operator, Greater, ShiftDown, NoOperator, operators}
+use Rattle.elastic_ast.specs.OperatorSorts.{Operator, Greater, ShiftDown, NoOperator, operators, operator_code}
 use Rattle.spelling.specs.Words.{Word}
 use Rattle.spelling.specs.Grammar.{IsSign, Begins, BeginTouching}
 use Rattle.spelling.proofs.Only.{begins_both}
-use Rattle.p4_expr.specs.Operators.{code_of, IsOperator, level_of, text_of}
+use Rattle.p4_expr.specs.Operators.{IsOperator, level_of, text_of}
 use Rattle.p4_expr.specs.Standing.{Stands}
 
 -- the text of an operator's first sign
@@ -89,17 +89,17 @@ some_same x y h = cc
 -- the codes of a list of operators, counted from a number on
 abbrev CodesFrom : ℕ → List Operator → Type 0
 CodesFrom n [] = Unit {0}
-CodesFrom n (operator ∷ more) = (code_of operator ≡ n) × CodesFrom (n + 1) more
+CodesFrom n (operator ∷ more) = (operator_code operator ≡ n) × CodesFrom (n + 1) more
 
-code_from : (n : ℕ) (table : List Operator) → CodesFrom n table → (code : ℕ) (operator : Operator) → slice_get table code ≡ Some operator → code_of operator ≡ n + code
+code_from : (n : ℕ) (table : List Operator) → CodesFrom n table → (code : ℕ) (operator : Operator) → slice_get table code ≡ Some operator → operator_code operator ≡ n + code
 code_from n [] c code operator h = absurd (let e : None ≡ Some operator = h in cc)
-code_from n (first ∷ more) c zero operator h = let same = ap code_of (some_same first operator h) in let at = c.0 in omega (arith, same, at)
+code_from n (first ∷ more) c zero operator h = let same = ap operator_code (some_same first operator h) in let at = c.0 in omega (arith, same, at)
 code_from n (first ∷ more) c (suc code) operator h = let rec = code_from (n + 1) more c.1 code operator h in omega (arith, rec)
 
-pub code_is : (code : ℕ) (operator : Operator) → slice_get operators code ≡ Some operator → code_of operator ≡ code
+pub code_is : (code : ℕ) (operator : Operator) → slice_get operators code ≡ Some operator → operator_code operator ≡ code
 code_is code operator h =
     let codes : CodesFrom 0 operators = (refl, (refl, (refl, (refl, (refl, (refl, (refl, (refl, (refl, (refl, (refl, (refl, (refl, (refl, (refl, (refl, (refl, (refl, (refl, tt))))))))))))))))))) in
     let is = code_from 0 operators codes code operator h in omega (arith, is)
 
 pub same_code : (level one other : ℕ) (operator second : Operator) → operator ≡ second → IsOperator level one operator → IsOperator level other second → one ≡ other
-same_code level one other operator second same i j = sym (code_is one operator i.coded) ∙ ap code_of same ∙ code_is other second j.coded
+same_code level one other operator second same i j = sym (code_is one operator i.coded) ∙ ap operator_code same ∙ code_is other second j.coded

@@ -2,11 +2,11 @@
 use Rattle.std.specs.Prelude.{ℕ, zero, suc, ◌++◌, List, [], ◌∷◌, None, codes, map}
 use Rattle.p4_lexer.specs.declared.token.Kind.TheVariants as kind
 use Rattle.p4_lexer.specs.declared.token.Token.{Token}
-use Rattle.elastic_ast.specs.OperatorSorts.{operators, Equal, BitAnd, ShiftUp, ShiftDown, Plus, Minus, Times, Turn, Negate}
+use Rattle.elastic_ast.specs.OperatorSorts.{operators, Equal, BitAnd, ShiftUp, ShiftDown, Plus, Minus, Times, Turn, Negate, operator_code}
 use Rattle.elastic_ast.specs.declared.statements.Amount.TheVariants as amount
 use Rattle.elastic_ast.specs.Tree.{PlainExpr}
 use Rattle.spelling.specs.Words.{Word, words}
-use Rattle.p4_expr.specs.Operators.{code_of, level_of, text_of}
+use Rattle.p4_expr.specs.Operators.{level_of, text_of}
 
 -- the token of a name, of a sign or a reserved word with this code, and of a number without a width, from one place to another
 abbrev pub named : ℕ → ℕ → Token
@@ -65,13 +65,13 @@ validity = words (codes "hdr.h.isValid()") (named 0 3 ∷ signed 11 3 4 ∷ name
 
 -- The tree of each of them.
 abbrev pub tree_of_product_in_sum : PlainExpr
-tree_of_product_in_sum = PlainExpr.Binary (code_of Plus) (PlainExpr.Named (codes "a")) (PlainExpr.Binary (code_of Times) (PlainExpr.Named (codes "b")) (PlainExpr.Named (codes "c")))
+tree_of_product_in_sum = PlainExpr.Binary (operator_code Plus) (PlainExpr.Named (codes "a")) (PlainExpr.Binary (operator_code Times) (PlainExpr.Named (codes "b")) (PlainExpr.Named (codes "c")))
 
 abbrev pub tree_of_two_differences : PlainExpr
-tree_of_two_differences = PlainExpr.Binary (code_of Minus) (PlainExpr.Binary (code_of Minus) (PlainExpr.Named (codes "a")) (PlainExpr.Named (codes "b"))) (PlainExpr.Named (codes "c"))
+tree_of_two_differences = PlainExpr.Binary (operator_code Minus) (PlainExpr.Binary (operator_code Minus) (PlainExpr.Named (codes "a")) (PlainExpr.Named (codes "b"))) (PlainExpr.Named (codes "c"))
 
 abbrev pub tree_of_shift : PlainExpr
-tree_of_shift = PlainExpr.Binary (code_of ShiftDown) (PlainExpr.Named (codes "x")) (PlainExpr.Num None 2)
+tree_of_shift = PlainExpr.Binary (operator_code ShiftDown) (PlainExpr.Named (codes "x")) (PlainExpr.Num None 2)
 
 abbrev pub tree_of_four_bits : PlainExpr
 tree_of_four_bits = PlainExpr.Slice (PlainExpr.Named (codes "h")) 7 4
@@ -80,19 +80,19 @@ abbrev pub tree_of_byte_of_name : PlainExpr
 tree_of_byte_of_name = PlainExpr.Cast 8 (PlainExpr.Named (codes "x"))
 
 abbrev pub tree_of_two_prefixes : PlainExpr
-tree_of_two_prefixes = PlainExpr.Unary (code_of Turn) (PlainExpr.Unary (code_of Negate) (PlainExpr.Named (codes "x")))
+tree_of_two_prefixes = PlainExpr.Unary (operator_code Turn) (PlainExpr.Unary (operator_code Negate) (PlainExpr.Named (codes "x")))
 
 abbrev pub tree_of_shift_of_sum : PlainExpr
-tree_of_shift_of_sum = PlainExpr.Binary (code_of ShiftUp) (PlainExpr.Named (codes "a")) (PlainExpr.Binary (code_of Plus) (PlainExpr.Named (codes "b")) (PlainExpr.Named (codes "c")))
+tree_of_shift_of_sum = PlainExpr.Binary (operator_code ShiftUp) (PlainExpr.Named (codes "a")) (PlainExpr.Binary (operator_code Plus) (PlainExpr.Named (codes "b")) (PlainExpr.Named (codes "c")))
 
 abbrev pub tree_of_and_in_equation : PlainExpr
-tree_of_and_in_equation = PlainExpr.Binary (code_of Equal) (PlainExpr.Named (codes "a")) (PlainExpr.Binary (code_of BitAnd) (PlainExpr.Named (codes "b")) (PlainExpr.Named (codes "c")))
+tree_of_and_in_equation = PlainExpr.Binary (operator_code Equal) (PlainExpr.Named (codes "a")) (PlainExpr.Binary (operator_code BitAnd) (PlainExpr.Named (codes "b")) (PlainExpr.Named (codes "c")))
 
 abbrev pub tree_of_turned_slice : PlainExpr
-tree_of_turned_slice = PlainExpr.Unary (code_of Turn) (PlainExpr.Slice (PlainExpr.Named (codes "x")) 3 0)
+tree_of_turned_slice = PlainExpr.Unary (operator_code Turn) (PlainExpr.Slice (PlainExpr.Named (codes "x")) 3 0)
 
 abbrev pub tree_of_byte_of_sum : PlainExpr
-tree_of_byte_of_sum = PlainExpr.Cast 8 (PlainExpr.Binary (code_of Plus) (PlainExpr.Named (codes "a")) (PlainExpr.Named (codes "b")))
+tree_of_byte_of_sum = PlainExpr.Cast 8 (PlainExpr.Binary (operator_code Plus) (PlainExpr.Named (codes "a")) (PlainExpr.Named (codes "b")))
 
 abbrev pub tree_of_hash_of_name : PlainExpr
 tree_of_hash_of_name = PlainExpr.Hash (amount.Named (codes "i")) (PlainExpr.Named (codes "x")) (amount.Num 7)
@@ -115,7 +115,7 @@ levels_and_texts =
 -- a name behind so many prefixes
 abbrev pub turned : ℕ → PlainExpr
 turned zero = PlainExpr.Named (codes "a")
-turned (suc n) = PlainExpr.Unary (code_of Turn) (turned n)
+turned (suc n) = PlainExpr.Unary (operator_code Turn) (turned n)
 
 -- the words of it; where they stand in a text doesn't matter
 abbrev pub turned_words : ℕ → List Word

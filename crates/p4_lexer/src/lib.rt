@@ -9,5 +9,5 @@ mod token;
 mod words;
 
 pub use lexing::{lex, one_list_of_tokens};
-pub use tables::{OPERATORS, RESERVED, SIGNS};
+pub use tables::{RESERVED, SIGNS};
 pub use token::{Kind, LexError, Token};

@@ -74,10 +74,6 @@ module _ {T : Type 0} (name_of : T → Name) (n : Name) where
   pub named_some : (names : List Name) (xs more : List T) (place : ℕ) → Some place ≡ place_of names n → names ≡ map name_of (xs ++ more) → slice_get xs place ≡ first_named name_of xs n
   named_some names xs more place p e = ap (option_and_then (slice_get xs)) p ∙ named_at names xs more e
 
-pub one_none : {A : Type 0} (o : Option A) → is_some o ≡ false → o ≡ None
-one_none None h = refl
-one_none (Some x) h = cc
-
 pub on_ok : {T E : Type 0} {P : Type 0} (r : Result T E) → false ≡ is_err r → OnOk r P → P
 on_ok (Ok x) h p = p
 on_ok (Err e) h p = cc

@@ -2,15 +2,16 @@
 use Rattle.std.proofs.lemmas.List.{append-nil, length-map}
 use Rattle.std.proofs.lemmas.Grind.{flat_map-append}
 use Rattle.program_names.specs.declared.names.Names.{Names}
-use Rattle.std.proofs.Common.{◌≡◌, ℕ, zero, suc, ◌+◌, ◌<◌, Bool, true, false, cond, List, [], ◌∷◌, ◌++◌, map, find, length, slice_get, Option, Some, None, is_some, refl, sym, ap, ◌∙◌, add-one}
+use Rattle.std.proofs.Common.{◌≡◌, ℕ, zero, suc, ◌+◌, Bool, true, false, cond, List, [], ◌∷◌, ◌++◌, map, length, slice_get, Option, Some, None, is_some, refl, sym, ap, ◌∙◌, add-one}
 use Rattle.std.specs.Prelude.{flat_map, option_map, option_and_then}
 use Rattle.std.specs.Map.{lookup}
 use Rattle.elastic_ast.specs.Tree.{Name, PlainDecl}
-use Rattle.elastic_ast.specs.Typing.Scope.{same}
+use Rattle.elastic_ast.specs.Typing.Scope.{same, found, or_else}
+use Rattle.elastic_ast.specs.Packets.MainParts.{main_in}
 use Rattle.elastic_ast.specs.Typing.LookUps.{members_in, meta_in}
 use Rattle.elastic_ast.specs.Typing.AskedOfNames.{top_name, top_names}
 use Rattle.program_names.specs.Named.{place_of, first_named}
-use Rattle.program_names.specs.TopNames.{AreNames, part_names, first_giving, number_after, with_decl, names_with, named_decls}
+use Rattle.program_names.specs.TopNames.{AreNames, controls_with, controls_of, part_names, first_giving, number_after, with_decl, names_with, named_decls}
 use Rattle.program_names.proofs.Places.{named_at}
 
 abbrev pub first_name : Name × PlainDecl → Name
@@ -24,7 +25,7 @@ pub names_named : (ds : List PlainDecl) → map first_name (named_decls ds) ≡ 
 names_named [] = refl
 names_named (d ∷ ds) = names_paired d (top_name d) (named_decls ds) ∙ ap (λ z. top_name d ++ z) (names_named ds)
 
-slice_get-map : {X Y : Type 0} (f : X → Y) (xs : List X) (i : ℕ) → slice_get (map f xs) i ≡ option_map f (slice_get xs i)
+pub slice_get-map : {X Y : Type 0} (f : X → Y) (xs : List X) (i : ℕ) → slice_get (map f xs) i ≡ option_map f (slice_get xs i)
 slice_get-map f [] i = refl
 slice_get-map f (x ∷ xs) zero = refl
 slice_get-map f (x ∷ xs) (suc i) = slice_get-map f xs i
@@ -74,14 +75,14 @@ still_at [] x y k e = cc
 still_at (z ∷ zs) x y zero e = e
 still_at (z ∷ zs) x y (suc k) e = still_at zs x y k e
 
-numbers_still : (decls : List PlainDecl) (x : PlainDecl) (ks : List ℕ) (es : List (Name × PlainDecl)) → map (slice_get decls) ks ≡ map (λ entry. Some entry.1) es → map (slice_get (decls ++ x ∷ [])) ks ≡ map (λ entry. Some entry.1) es
-numbers_still decls x [] [] h = refl
-numbers_still decls x [] (e ∷ es) h = cc
-numbers_still decls x (k ∷ ks) [] h = cc
-numbers_still decls x (k ∷ ks) (e ∷ es) h =
-    let first : slice_get decls k ≡ Some e.1 = cc in
-    let rest : map (slice_get decls) ks ≡ map (λ entry. Some entry.1) es = cc in
-    ap (λ z. z ∷ map (slice_get (decls ++ x ∷ [])) ks) (still_at decls x e.1 k first) ∙ ap (λ z. Some e.1 ∷ z) (numbers_still decls x ks es rest)
+numbers_still : {E : Type 0} (shown : E → PlainDecl) (decls : List PlainDecl) (x : PlainDecl) (ks : List ℕ) (es : List E) → map (slice_get decls) ks ≡ map (λ e. Some (shown e)) es → map (slice_get (decls ++ x ∷ [])) ks ≡ map (λ e. Some (shown e)) es
+numbers_still shown decls x [] [] h = refl
+numbers_still shown decls x [] (e ∷ es) h = cc
+numbers_still shown decls x (k ∷ ks) [] h = cc
+numbers_still shown decls x (k ∷ ks) (e ∷ es) h =
+    let first : slice_get decls k ≡ Some (shown e) = cc in
+    let rest : map (slice_get decls) ks ≡ map (λ e. Some (shown e)) es = cc in
+    ap (λ z. z ∷ map (slice_get (decls ++ x ∷ [])) ks) (still_at decls x (shown e) k first) ∙ ap (λ z. Some (shown e) ∷ z) (numbers_still shown decls x ks es rest)
 
 map-append : {X Y : Type 0} (f : X → Y) (xs ys : List X) → map f (xs ++ ys) ≡ map f xs ++ map f ys
 map-append f [] ys = refl
@@ -93,6 +94,19 @@ numbers_here decls x (n ∷ ns) = ap (λ z. z ∷ map (slice_get (decls ++ x ∷
 
 flat_last : {X Y : Type 0} (f : X → List Y) (xs : List X) (x : X) → flat_map f (xs ++ x ∷ []) ≡ flat_map f xs ++ f x
 flat_last f xs x = flat_map-append f xs (x ∷ []) ∙ ap (λ z. flat_map f xs ++ z) (append-nil (f x))
+
+controls_here : (decls : List PlainDecl) (x : PlainDecl) → map (slice_get (decls ++ x ∷ [])) (map (λ control. length decls) (controls_with x)) ≡ map Some (controls_with x)
+controls_here decls (PlainDecl.Control name locals body) = ap (λ z. z ∷ []) (one_more_at decls (PlainDecl.Control name locals body))
+controls_here decls _ = refl
+
+controls_next : (decls : List PlainDecl) (x : PlainDecl) (old new : List ℕ) (number : ℕ) → number ≡ length decls → new ≡ old ++ map (λ control. number) (controls_with x) → map (slice_get decls) old ≡ map Some (controls_of decls)
+    → map (slice_get (decls ++ x ∷ [])) new ≡ map Some (controls_of (decls ++ x ∷ []))
+controls_next decls x old new number here is known =
+    ap (map (slice_get (decls ++ x ∷ []))) (is ∙ ap (λ k. old ++ map (λ control. k) (controls_with x)) here)
+    ∙ map-append (slice_get (decls ++ x ∷ [])) old (map (λ control. length decls) (controls_with x))
+    ∙ ap (λ z. z ++ map (slice_get (decls ++ x ∷ [])) (map (λ control. length decls) (controls_with x))) (numbers_still (λ control. control) decls x old (controls_of decls) known)
+    ∙ ap (λ z. map Some (controls_of decls) ++ z) (controls_here decls x)
+    ∙ sym (ap (map Some) (flat_last controls_with decls x) ∙ map-append Some (controls_of decls) (controls_with x))
 
 giving_last : {B : Type 0} (gives : PlainDecl → Option B) (decls : List PlainDecl) (x : PlainDecl) → first_giving gives (decls ++ x ∷ []) ≡ number_after (first_giving gives decls) (is_some (gives x)) (length decls)
 giving_last gives [] x = refl
@@ -109,18 +123,39 @@ giving_last gives (d ∷ ds) x = by (is_some (gives d)) (giving_last gives ds x)
     by false ih = ap (option_map (λ k. k + 1)) ih ∙ later (first_giving gives ds) (is_some (gives x)) (length ds)
 
 pub next_names : (old new : Names) (decls : List PlainDecl) (x : PlainDecl) (number : ℕ) → AreNames old decls → number ≡ length old.parts.items → new.top ≡ old.top ++ top_name x → new.numbers.items ≡ old.numbers.items ++ map (λ name. number) (top_name x)
-    → new.parts.items ≡ old.parts.items ++ part_names x ∷ [] → new.headers ≡ number_after old.headers (is_some (members_in x)) number → new.metadata ≡ number_after old.metadata (is_some (meta_in x)) number → AreNames new (decls ++ x ∷ [])
-next_names old new decls x number are count top numbers parts headers metadata = record {
+    → new.parts.items ≡ old.parts.items ++ part_names x ∷ [] → new.headers ≡ number_after old.headers (is_some (members_in x)) number → new.metadata ≡ number_after old.metadata (is_some (meta_in x)) number
+    → new.main ≡ number_after old.main (is_some (main_in x)) number → new.controls.items ≡ old.controls.items ++ map (λ control. number) (controls_with x) → AreNames new (decls ++ x ∷ [])
+next_names old new decls x number are count top numbers parts headers metadata main controls = record {
   top = top ∙ ap (λ z. z ++ top_name x) are.top ∙ sym (flat_last top_name decls x);
   numbers = ap (map (slice_get (decls ++ x ∷ []))) (numbers ∙ ap (λ k. old.numbers.items ++ map (λ name. k) (top_name x)) here)
       ∙ map-append (slice_get (decls ++ x ∷ [])) old.numbers.items (map (λ name. length decls) (top_name x))
-      ∙ ap (λ z. z ++ map (slice_get (decls ++ x ∷ [])) (map (λ name. length decls) (top_name x))) (numbers_still decls x old.numbers.items (named_decls decls) are.numbers)
+      ∙ ap (λ z. z ++ map (slice_get (decls ++ x ∷ [])) (map (λ name. length decls) (top_name x))) (numbers_still (λ entry. entry.1) decls x old.numbers.items (named_decls decls) are.numbers)
       ∙ ap (λ z. map (λ entry. Some entry.1) (named_decls decls) ++ z) (numbers_here decls x (top_name x))
       ∙ sym (ap (map (λ entry. Some entry.1)) (flat_last names_with decls x) ∙ map-append (λ entry. Some entry.1) (named_decls decls) (names_with x));
   parts = parts ∙ ap (λ z. z ++ part_names x ∷ []) are.parts ∙ sym (map-append part_names decls (x ∷ []));
   headers = headers ∙ ap (λ z. number_after z (is_some (members_in x)) number) are.headers ∙ ap (number_after (first_giving members_in decls) (is_some (members_in x))) here ∙ sym (giving_last members_in decls x);
   metadata = metadata ∙ ap (λ z. number_after z (is_some (meta_in x)) number) are.metadata ∙ ap (number_after (first_giving meta_in decls) (is_some (meta_in x))) here ∙ sym (giving_last meta_in decls x);
+  main = main ∙ ap (λ z. number_after z (is_some (main_in x)) number) are.main ∙ ap (number_after (first_giving main_in decls) (is_some (main_in x))) here ∙ sym (giving_last main_in decls x);
+  controls = controls_next decls x old.controls.items new.controls.items number here controls are.controls;
 }
   where
     here : number ≡ length decls
     here = count ∙ ap length are.parts ∙ length-map decls part_names
+
+-- the first declaration that gives something, by its number
+module _ {B : Type 0} (gives : PlainDecl → Option B) where
+  pub giving_is : (decls : List PlainDecl) → option_and_then gives (option_and_then (slice_get decls) (first_giving gives decls)) ≡ found gives decls
+  giving_is [] = refl
+  giving_is (d ∷ ds) = by (gives d) refl (giving_is ds)
+    where
+      later : (o : Option ℕ) → option_and_then gives (option_and_then (slice_get (d ∷ ds)) (option_map (λ k. k + 1) o)) ≡ option_and_then gives (option_and_then (slice_get ds) o)
+      later None = refl
+      later (Some k) = ap (λ j. option_and_then gives (slice_get (d ∷ ds) j)) (add-one k)
+
+      by : (o : Option B) → gives d ≡ o → option_and_then gives (option_and_then (slice_get ds) (first_giving gives ds)) ≡ found gives ds
+          → option_and_then gives (option_and_then (slice_get (d ∷ ds)) (cond (is_some o) (Some 0) (option_map (λ k. k + 1) (first_giving gives ds)))) ≡ or_else o (found gives ds)
+      by (Some x) e ih = e
+      by None e ih = later (first_giving gives ds) ∙ ih
+
+  pub giving_number : (decls : List PlainDecl) (number : Option ℕ) → number ≡ first_giving gives decls → option_and_then gives (option_and_then (slice_get decls) number) ≡ found gives decls
+  giving_number decls number e = ap (λ z. option_and_then gives (option_and_then (slice_get decls) z)) e ∙ giving_is decls

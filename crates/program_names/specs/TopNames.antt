@@ -6,10 +6,11 @@ use denote.Bor.{Bor}
 use Rattle.elastic_ast.specs.declared.declarations.Decl.{Decl}
 use Rattle.elastic_ast.specs.Tree.{Name, PlainDecl}
 use Rattle.elastic_ast.specs.Seen.{seen_decl}
-use Rattle.elastic_ast.specs.Typing.Scope.{same, or_else}
+use Rattle.elastic_ast.specs.Typing.Scope.{same, found, or_else}
 use Rattle.elastic_ast.specs.Typing.Asked.{field_name}
 use Rattle.elastic_ast.specs.Typing.AskedInLocals.{local_name}
 use Rattle.elastic_ast.specs.Typing.AskedOfNames.{top_name, top_names}
+use Rattle.elastic_ast.specs.Packets.MainParts.{main_in}
 use Rattle.elastic_ast.specs.Typing.LookUps.{member_name, members_in, meta_in}
 use Rattle.elastic_ast.specs.Typing.ParserLoops.{state_names}
 use Rattle.program_names.specs.declared.names.Names.{Names}
@@ -46,6 +47,14 @@ option_list (Some x) = x ∷ []
 abbrev pub number_after : Option ℕ → Bool → ℕ → Option ℕ
 number_after known here number = or_else known (if here then Some number else None)
 
+-- a declaration, if it is that of a control, and those of controls among some
+abbrev pub controls_with : PlainDecl → List PlainDecl
+controls_with (PlainDecl.Control name locals body) = PlainDecl.Control name locals body ∷ []
+controls_with _ = []
+
+abbrev pub controls_of : List PlainDecl → List PlainDecl
+controls_of = flat_map controls_with
+
 -- tables of names are those of some declarations
 pub record AreNames (names : Names) (decls : List PlainDecl) : Type 0 where
   pub top : names.top ≡ top_names decls
@@ -53,6 +62,8 @@ pub record AreNames (names : Names) (decls : List PlainDecl) : Type 0 where
   pub parts : names.parts.items ≡ map part_names decls
   pub headers : names.headers ≡ first_giving members_in decls
   pub metadata : names.metadata ≡ first_giving meta_in decls
+  pub main : names.main ≡ first_giving main_in decls
+  pub controls : map (slice_get decls) names.controls.items ≡ map Some (controls_of decls)
 
 -- tables of some declarations have become those with one more
 abbrev pub HasNext : Names → Names → Decl → Type 0
@@ -66,6 +77,10 @@ KeepsNames old new = (decls : List PlainDecl) → AreNames old decls → AreName
 abbrev pub numbers_with : Decl → ℕ → List ℕ
 numbers_with decl number = map (λ name. number) (top_name (seen_decl decl))
 
+-- the number of a declaration, if it is that of a control
+abbrev pub control_numbers : Decl → ℕ → List ℕ
+control_numbers decl number = map (λ control. number) (controls_with (seen_decl decl))
+
 -- a number is that of the declaration of a name
 abbrev pub IsNumberOf : Names → Name → Option ℕ → Type 0
 IsNumberOf names name number = (decls : List PlainDecl) → AreNames names decls → option_and_then (slice_get decls) number ≡ lookup (same name) (named_decls decls)
@@ -73,3 +88,11 @@ IsNumberOf names name number = (decls : List PlainDecl) → AreNames names decls
 -- a table is that of the parts of a declaration
 abbrev pub IsTableAt : Names → ℕ → Option (Bor (List Name)) → Type 0
 IsTableAt names number table = (decls : List PlainDecl) → AreNames names decls → option_copied table ≡ option_map part_names (slice_get decls number)
+
+-- a number is that of the first declaration that gives something
+abbrev pub IsNumberGiving : {B : Type 0} → (PlainDecl → Option B) → Names → Option ℕ → Type 0
+IsNumberGiving gives names number = (decls : List PlainDecl) → AreNames names decls → option_and_then gives (option_and_then (slice_get decls) number) ≡ found gives decls
+
+-- numbers are those of the declarations of controls
+abbrev pub AreControls : Names → List ℕ → Type 0
+AreControls names numbers = (decls : List PlainDecl) → AreNames names decls → map (slice_get decls) numbers ≡ map Some (controls_of decls)

@@ -1,12 +1,13 @@
 //! The names that the declarations of a program declare, and those of their parts.
 
-ghost use Rattle.std.specs.Prelude.{◌≡◌, [], ◌++◌, true, is_some, OnOk, OnErr};
+ghost use Rattle.std.specs.Prelude.{◌≡◌, ◌<◌, [], ◌++◌, true, is_some, vec_len, vec_capacity, OnOk, OnErr};
 ghost use Rattle.std.specs.Option.{option_copied};
 ghost use Rattle.elastic_ast.specs.Seen.{seen_decl};
 ghost use Rattle.elastic_ast.specs.Typing.AskedOfNames.{top_name};
+ghost use Rattle.elastic_ast.specs.Packets.MainParts.{main_in};
 ghost use Rattle.elastic_ast.specs.Typing.LookUps.{members_in, meta_in};
 ghost use Rattle.program_names.specs.Distinct.{are_new};
-ghost use Rattle.program_names.specs.TopNames.{KeepsNames, numbers_with, AreNames, HasNext, IsNumberOf, IsTableAt, part_names, option_list, number_after};
+ghost use Rattle.program_names.specs.TopNames.{KeepsNames, numbers_with, AreNames, AreControls, HasNext, IsNumberGiving, IsNumberOf, IsTableAt, control_numbers, part_names, option_list, number_after};
 
 use crate::name_places::NamePlaces;
 use elastic_ast::Decl;
@@ -14,14 +15,16 @@ use elx_bits::Name;
 use std::alloc::{AllocError, Global};
 
 /// Tables of the names of some declarations: the number of the declaration of each name, the names of the parts of each
-/// declaration, and the numbers of `headers_t` and `meta_t`.
+/// declaration, and the numbers of `headers_t`, `meta_t`, `main` and the controls.
 #[derive(Drop)]
 pub struct Names {
     top: NamePlaces,
     numbers: Vec<usize>,
     parts: Vec<NamePlaces>,
+    controls: Vec<usize>,
     headers: Option<usize>,
     metadata: Option<usize>,
+    main: Option<usize>,
 }
 
 /// The name that a declaration puts into the scope of the program.
@@ -77,6 +80,24 @@ fn is_metadata(decl: &Decl) -> bool
     matches!(decl, Decl::Meta(_))
 }
 
+/// Whether a declaration is that of `main`.
+fn is_main(decl: &Decl) -> bool
+    ensures { result ≡ is_some (main_in (seen_decl decl.now)) }
+{
+    matches!(decl, Decl::Main { .. })
+}
+
+/// Adds the number of a declaration, if it is that of a control. There must be room for it.
+fn add_control(controls: &mut Vec<usize>, decl: &Decl, number: usize)
+    requires { vec_len controls.old < vec_capacity controls.old }
+    ensures { controls.new.items ≡ controls.old.items ++ control_numbers decl.now number }
+{
+    match decl {
+        Decl::Control { .. } => controls.push_reserved(number),
+        _ => {}
+    }
+}
+
 /// Adds the name of a declaration with the number of it, if it has a name. For want of memory nothing changes.
 fn declare(
     top: &mut NamePlaces,
@@ -110,8 +131,10 @@ impl Names {
             top: NamePlaces::new(alloc),
             numbers: Vec::new(alloc),
             parts: Vec::new(alloc),
+            controls: Vec::new(alloc),
             headers: None,
             metadata: None,
+            main: None,
         }
     }
 
@@ -125,10 +148,13 @@ impl Names {
     {
         let number = self.parts.as_slice().len();
         self.parts.reserve(1)?;
+        self.controls.reserve(1)?;
         declare(&mut self.top, &mut self.numbers, decl, number)?;
         self.parts.push_reserved(parts);
         self.headers = first_number(self.headers, is_headers(decl), number);
         self.metadata = first_number(self.metadata, is_metadata(decl), number);
+        self.main = first_number(self.main, is_main(decl), number);
+        add_control(&mut self.controls, decl, number);
         Ok(())
     }
 
@@ -147,5 +173,33 @@ impl Names {
         ensures { IsTableAt self.now number result }
     {
         self.parts.get(number)
+    }
+
+    /// The number of the declaration of `headers_t`.
+    pub fn headers(&self) -> Option<usize>
+        ensures { IsNumberGiving members_in self.now result }
+    {
+        self.headers
+    }
+
+    /// The number of the declaration of `meta_t`.
+    pub fn metadata(&self) -> Option<usize>
+        ensures { IsNumberGiving meta_in self.now result }
+    {
+        self.metadata
+    }
+
+    /// The number of the declaration of `main`.
+    pub fn main(&self) -> Option<usize>
+        ensures { IsNumberGiving main_in self.now result }
+    {
+        self.main
+    }
+
+    /// The numbers of the declarations of controls. A program that is typed has one at most.
+    pub fn controls(&self) -> &[usize]
+        ensures { AreControls self.now result.now }
+    {
+        self.controls.as_slice()
     }
 }

@@ -14,9 +14,9 @@ use Rattle.elastic_ast.specs.Typing.NamedRegisters.{body_registers, registers_of
 use Rattle.register_uses.specs.declared.actions.ActionNames.{ActionNames}
 use Rattle.register_uses.specs.declared.tables.TableNames.{TableNames}
 use Rattle.register_uses.specs.Summaries.{plain_summary, summed}
-use Rattle.register_uses.specs.FirstNamed.{entry_value, EntersValue}
+use Rattle.program_names.specs.FirstNamed.{entry_value, EntersValue}
 use Rattle.register_uses.specs.LocalTables.{seen_locals, named_by_action, named_by_actions, named_by_table, action_shown, IsActionOf, summed_action, action_given, HasActions, EntersAction, table_shown, IsTableOf, summed_table, table_given, HasTables, EntersTable}
-use Rattle.register_uses.proofs.FirstLaws.{found_map, enters_first}
+use Rattle.program_names.proofs.FirstLaws.{found_map, enters_first}
 
 action_by : (o : Option ActionNames) (f : Option PlainAction) → option_map action_shown o ≡ option_map summed_action f → IsActionOf (registers_of_action f) o
 action_by None None h = refl

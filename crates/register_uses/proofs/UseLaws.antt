@@ -8,7 +8,7 @@ use Rattle.register_uses.specs.declared.uses.Use.{Use}
 use Rattle.register_uses.specs.declared.uses.Use.TheVariants as usage
 use Rattle.register_uses.specs.Summaries.{PlainSummary, summed}
 use Rattle.register_uses.specs.Uses.{combined, twice_if, use_in, use_in_unit, use_in_units}
-use Rattle.register_uses.specs.FirstNamed.{entry_value}
+use Rattle.program_names.specs.FirstNamed.{entry_value}
 use Rattle.register_uses.specs.Walks.{UseEntries, Notes, Marks, Adds}
 
 pub combined_none : (a : Option Use) → combined a None ≡ a

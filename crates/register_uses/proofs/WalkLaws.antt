@@ -13,7 +13,7 @@ use Rattle.elastic_ast.proofs.Typing.SameNames.{same_told}
 use Rattle.register_uses.specs.declared.uses.Use.TheVariants as usage
 use Rattle.register_uses.specs.declared.walk.Walk.{Walk}
 use Rattle.register_uses.specs.Summaries.{PlainSummary, summed}
-use Rattle.register_uses.specs.FirstNamed.{entry_value}
+use Rattle.program_names.specs.FirstNamed.{entry_value}
 use Rattle.register_uses.specs.LocalTables.{named_by_action, named_by_table}
 use Rattle.register_uses.specs.Walks.{is_in, UseEntries, Notes, Marks, Adds, AreMarked, IsMarked, HasMarked, HasAdded}
 use Rattle.register_uses.proofs.UseLaws.{adds_both, marks_both, marks_none, marks_stay, adds_stay, marked_twice, marks_again, adds_nothing, adds_only, adds_several}

@@ -7,7 +7,7 @@ use Rattle.elastic_ast.specs.Seen.{seen_decl, seen_decls}
 use Rattle.elastic_ast.specs.Typing.LookUps.{register_size_in}
 use Rattle.elastic_ast.specs.Typing.NamedRegisters.{registers_in, named_registers}
 use Rattle.register_uses.specs.Uses.{use_in_units}
-use Rattle.register_uses.specs.FirstNamed.{entry_value, HasFirst, EntersFirst}
+use Rattle.program_names.specs.FirstNamed.{entry_value, HasFirst, EntersFirst}
 use Rattle.register_uses.specs.Walks.{UseEntries, Adds}
 
 abbrev pub ArrayEntries : Type 0

@@ -1,6 +1,5 @@
 pub mod Summaries
 pub mod Uses
-pub mod FirstNamed
 pub mod LocalTables
 pub mod Walks
 pub mod HasUses

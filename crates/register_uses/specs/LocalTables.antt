@@ -7,7 +7,7 @@ use Rattle.elastic_ast.specs.Seen.{seen_local, seen_stmts}
 use Rattle.elastic_ast.specs.Typing.LookUps.{action_in, table_in}
 use Rattle.elastic_ast.specs.Typing.NamedRegisters.{body_registers, action_registers, table_registers}
 use Rattle.register_uses.specs.Summaries.{PlainSummary, plain_summary, summed}
-use Rattle.register_uses.specs.FirstNamed.{HasFirst, EntersFirst}
+use Rattle.program_names.specs.FirstNamed.{HasFirst, EntersFirst}
 use Rattle.register_uses.specs.declared.actions.ActionNames.{ActionNames}
 use Rattle.register_uses.specs.declared.tables.TableNames.{TableNames}
 

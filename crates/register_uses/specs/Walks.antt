@@ -9,7 +9,7 @@ use Rattle.elastic_ast.specs.Seen.{seen_stmt, seen_stmts}
 use Rattle.elastic_ast.specs.Typing.Scope.{same, among}
 use Rattle.elastic_ast.specs.Typing.NamedRegisters.{Naming, plain_registers, body_registers, unit_registers, units_registers}
 use Rattle.register_uses.specs.Uses.{combined, twice_if, use_in_units}
-use Rattle.register_uses.specs.FirstNamed.{entry_value}
+use Rattle.program_names.specs.FirstNamed.{entry_value}
 use Rattle.register_uses.specs.LocalTables.{seen_locals, named_by_action, named_by_table}
 use Rattle.register_uses.specs.declared.uses.Use.{Use}
 use Rattle.register_uses.specs.declared.uses.Use.TheVariants as usage

@@ -6,11 +6,11 @@ ghost use Rattle.elastic_ast.specs.Typing.NamedRegisters.{body_registers};
 ghost use Rattle.register_uses.specs.Summaries.{plain_summary, summed};
 ghost use Rattle.register_uses.specs.LocalTables.{EntersAction, IsActionOf, named_by_action};
 
-use crate::first_named::enter;
 use crate::summary::{Summary, of_body};
 use elastic_ast::{Local, Stmt};
 use elx_bits::Name;
 use indexmap::IndexMap;
+use program_names::enter;
 use std::alloc::{AllocError, Global};
 use std::marker::Model;
 

@@ -2,7 +2,6 @@
 #![tactic(auto)]
 
 mod actions;
-mod first_named;
 mod program;
 mod summary;
 mod tables;

@@ -6,12 +6,12 @@ ghost use Rattle.elastic_ast.specs.Typing.NamedRegisters.{IsUnnamed, NamedTwice,
 ghost use Rattle.register_uses.specs.Uses.{use_in_units, is_twice as is_twice_used};
 ghost use Rattle.register_uses.specs.HasUses.{AddsDecl, EntersArray, HasAllUses, HasArrays};
 
-use crate::first_named::enter;
 use crate::uses::Use;
 use crate::walk::with_control;
 use elastic_ast::Decl;
 use elx_bits::Name;
 use indexmap::IndexMap;
+use program_names::enter;
 use std::alloc::{AllocError, Global};
 use std::marker::Model;
 

@@ -5,11 +5,11 @@ ghost use Rattle.register_uses.specs.Summaries.{plain_summary, summed};
 ghost use Rattle.register_uses.specs.LocalTables.{EntersTable, IsTableOf, HasTables, named_by_action, named_by_actions, named_by_table};
 
 use crate::actions::ActionTable;
-use crate::first_named::enter;
 use crate::summary::{Summary, together};
 use elastic_ast::Local;
 use elx_bits::Name;
 use indexmap::IndexMap;
+use program_names::enter;
 use std::alloc::{AllocError, Global};
 use std::marker::Model;
 

@@ -27,8 +27,8 @@ use Rattle.elastic_ast.proofs.Typing.TypedLaws.{if_none, none_both, unmapped}
 use Rattle.width_check.specs.Sound.{IsSound, most_declarations}
 use Rattle.width_check.proofs.BrokenLaws.{typed_walk}
 use Rattle.width_check.proofs.CheckLaws.{other_broken, broken_parts}
-use Rattle.width_check.proofs.ScopeLaws.{step_take}
-use Rattle.width_check.proofs.Steps.{items_drop}
+use Rattle.expr_types.proofs.ScopeLaws.{step_take}
+use Rattle.program_names.proofs.Items.{drop_step}
 use Rattle.size_terms.specs.declared.sums.Sum.{Sum}
 use Rattle.size_terms.specs.Places.{place_of}
 use Rattle.size_terms.specs.Rows.{is_near_pair}
@@ -155,14 +155,14 @@ take_step xs i x h e = ap (λ k. take k xs) (add-one i) ∙ by xs i x h e
     by (y ∷ ys) (suc i) x h e = ap (λ z. y ∷ z) (by ys i x (omega arith) e)
 
 pub test_rest : {X : Type 0} (p : X → Bool) (xs : List X) (i : ℕ) (x : X) → i < length xs → x ≡ get_or xs i x → list_all p (drop i xs) ≡ true → list_all p (drop (i + 1) xs) ≡ true
-test_rest p xs i x h e inv = (and_parts (p x) (list_all p (drop (i + 1) xs)) (ap (list_all p) (sym (items_drop xs i x h e)) ∙ inv)).1
+test_rest p xs i x h e inv = (and_parts (p x) (list_all p (drop (i + 1) xs)) (ap (list_all p) (sym (drop_step xs i x h e)) ∙ inv)).1
 
 -- the comparisons of the declarations
 pub comps_taken : (ds : List Decl) (i : ℕ) (d : Decl) → i < length ds → d ≡ get_or ds i d → comparisons (seen_decls (take (i + 1) ds)) ≡ comparisons (seen_decls (take i ds)) ++ comps_of (seen_decl d)
 comps_taken ds i d h e = ap comparisons (step_take ds i d h e) ∙ flat_map-append comps_of (seen_decls (take i ds)) (seen_decl d ∷ []) ∙ ap (λ z. comparisons (seen_decls (take i ds)) ++ z) (append-nil (comps_of (seen_decl d)))
 
 comps_dropped : (ds : List Decl) (i : ℕ) (d : Decl) → i < length ds → d ≡ get_or ds i d → list_all is_short (comparisons (seen_decls (drop i ds))) ≡ (list_all is_short (comps_of (seen_decl d)) && list_all is_short (comparisons (seen_decls (drop (i + 1) ds))))
-comps_dropped ds i d h e = ap (λ z. list_all is_short (comparisons (seen_decls z))) (items_drop ds i d h e) ∙ list_all-append is_short (comps_of (seen_decl d)) (comparisons (seen_decls (drop (i + 1) ds)))
+comps_dropped ds i d h e = ap (λ z. list_all is_short (comparisons (seen_decls z))) (drop_step ds i d h e) ∙ list_all-append is_short (comps_of (seen_decl d)) (comparisons (seen_decls (drop (i + 1) ds)))
 
 pub short_rest : (ds : List Decl) (i : ℕ) (d : Decl) → i < length ds → d ≡ get_or ds i d → list_all is_short (comparisons (seen_decls (drop i ds))) ≡ true → list_all is_short (comparisons (seen_decls (drop (i + 1) ds))) ≡ true
 short_rest ds i d h e inv = (and_parts (list_all is_short (comps_of (seen_decl d))) (list_all is_short (comparisons (seen_decls (drop (i + 1) ds)))) (sym (comps_dropped ds i d h e) ∙ inv)).1
@@ -171,7 +171,7 @@ short_rest ds i d h e inv = (and_parts (list_all is_short (comps_of (seen_decl d
 pub utils_step : (symbols : List Name) (sum new : Sum) (ts : List UtilTerm) (i : ℕ) (t : UtilTerm) (sizes : List ℕ) (whole : ℤ) → i < length ts → t ≡ get_or ts i t
     → sum_worth new sizes ≡ sum_worth sum sizes +ℤ linear_value symbols sizes t → sum_worth sum sizes +ℤ linears_value symbols sizes (drop i ts) ≡ whole → sum_worth new sizes +ℤ linears_value symbols sizes (drop (i + 1) ts) ≡ whole
 utils_step symbols sum new ts i t sizes whole h e grown inv =
-    let parts : linears_value symbols sizes (drop i ts) ≡ linear_value symbols sizes t +ℤ linears_value symbols sizes (drop (i + 1) ts) = ap (linears_value symbols sizes) (items_drop ts i t h e) in
+    let parts : linears_value symbols sizes (drop i ts) ≡ linear_value symbols sizes t +ℤ linears_value symbols sizes (drop (i + 1) ts) = ap (linears_value symbols sizes) (drop_step ts i t h e) in
     omega (arith, ints, parts, grown, inv)
 
 -- the rows of a whole program

@@ -9,7 +9,7 @@ use Rattle.std.proofs.lemmas.Bool.Decides.{nat_tests}
 use Rattle.elastic_ast.specs.Tree.{Name, PlainDecl}
 use Rattle.elastic_ast.specs.Sizes.Counted.{counted_symbols}
 use Rattle.elastic_ast.specs.Sizes.SizeSums.{symbols_of}
-use Rattle.width_check.proofs.Steps.{items_drop}
+use Rattle.program_names.proofs.Items.{drop_step}
 use Rattle.size_terms.specs.Places.{place_of}
 use Rattle.size_terms.specs.Ones.{is_at, is_counted, ones_of, marked_at, marked, set_from, set_marks}
 
@@ -40,7 +40,7 @@ marks_on symbols names_of here xs i x old new all parts h e now before = record 
   dense = ap length now ∙ marked-length symbols old here ∙ before.dense;
   same =
       ap (λ z. marked symbols z (names_of (drop (i + 1) xs))) now ∙ sym (marked-append symbols old here (names_of (drop (i + 1) xs)))
-      ∙ ap (marked symbols old) (sym parts ∙ ap names_of (sym (items_drop xs i x h e))) ∙ before.same;
+      ∙ ap (marked symbols old) (sym parts ∙ ap names_of (sym (drop_step xs i x h e))) ∙ before.same;
 }
 
 -- a mark, after that of one place is set

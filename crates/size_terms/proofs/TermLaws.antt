@@ -14,7 +14,7 @@ use mir.Syntax.{w128}
 use Rattle.elastic_ast.specs.declared.declarations.LinTerm.{LinTerm}
 use Rattle.elastic_ast.specs.Tree.{Name}
 use Rattle.elastic_ast.specs.Sizes.SizeSums.{negated_if, size_of, count_of, term_value, sum_value}
-use Rattle.width_check.proofs.Steps.{items_drop}
+use Rattle.program_names.proofs.Items.{drop_step}
 use Rattle.size_terms.specs.declared.sums.Sum.{Sum}
 use Rattle.size_terms.specs.Rows.{dot, coefficient_weight}
 use Rattle.size_terms.specs.Growth.{sum_worth, is_near, Grows, IsZero, Negates}
@@ -91,11 +91,11 @@ pub worth_step : (symbols : List Name) (sum new : Sum) (terms : List LinTerm) (i
     → sum_worth new sizes +ℤ negated_if minus (sum_value symbols sizes (drop (i + 1) terms)) ≡ whole
 worth_step symbols sum new terms i t minus sizes whole h e grown inv =
     let parts : negated_if minus (sum_value symbols sizes (drop i terms)) ≡ negated_if minus (term_value symbols sizes t) +ℤ negated_if minus (sum_value symbols sizes (drop (i + 1) terms)) =
-    ap (λ z. negated_if minus (sum_value symbols sizes z)) (items_drop terms i t h e) ∙ signed_sum minus (term_value symbols sizes t) (sum_value symbols sizes (drop (i + 1) terms)) in
+    ap (λ z. negated_if minus (sum_value symbols sizes z)) (drop_step terms i t h e) ∙ signed_sum minus (term_value symbols sizes t) (sum_value symbols sizes (drop (i + 1) terms)) in
     omega (arith, ints, parts, grown, inv)
 
 pub near_rest : (terms : List LinTerm) (i : ℕ) (t : LinTerm) → i < length terms → t ≡ get_or terms i t → list_all is_near (drop i terms) ≡ true → list_all is_near (drop (i + 1) terms) ≡ true
-near_rest terms i t h e inv = (and_parts (is_near t) (list_all is_near (drop (i + 1) terms)) (ap (list_all is_near) (sym (items_drop terms i t h e)) ∙ inv)).1
+near_rest terms i t h e inv = (and_parts (is_near t) (list_all is_near (drop (i + 1) terms)) (ap (list_all is_near) (sym (drop_step terms i t h e)) ∙ inv)).1
 
 -- the sum of nothing
 dot_zeros : (n : ℕ) (zeros : List ℤ) (sizes : List ℕ) → zeros ≡ replicate n (pos 0) → dot zeros sizes ≡ pos 0
@@ -137,7 +137,7 @@ neg_fits z h = let e = abs_neg z in fits_small (neg_ℤ z) (omega (arith, e))
 
 pub neg_step : (done numbers : List ℤ) (i : ℕ) (x y : ℤ) → i < length numbers → x ≡ get_or numbers i x → y ≡ neg_ℤ x → done ++ map neg_ℤ (drop i numbers) ≡ map neg_ℤ numbers → (done ++ y ∷ []) ++ map neg_ℤ (drop (i + 1) numbers) ≡ map neg_ℤ numbers
 neg_step done numbers i x y h e n inv =
-    append_assoc done (y ∷ []) (map neg_ℤ (drop (i + 1) numbers)) ∙ ap (λ z. done ++ z ∷ map neg_ℤ (drop (i + 1) numbers)) n ∙ ap (λ z. done ++ map neg_ℤ z) (sym (items_drop numbers i x h e)) ∙ inv
+    append_assoc done (y ∷ []) (map neg_ℤ (drop (i + 1) numbers)) ∙ ap (λ z. done ++ z ∷ map neg_ℤ (drop (i + 1) numbers)) n ∙ ap (λ z. done ++ map neg_ℤ z) (sym (drop_step numbers i x h e)) ∙ inv
 
 -- a number as it is passed on
 pub passed_on : (t : LinTerm) (minus : Bool) (r : ℤ) → r ≡ negated_if minus (negated_if t.minus (pos t.by)) → is_near t ≡ true → to_z w128 (of_z w128 r) ≡ negated_if minus (negated_if t.minus (pos t.by))

@@ -4,7 +4,7 @@ use Rattle.std.specs.Prelude.{unsigned_abs}
 use Rattle.std.proofs.lemmas.Int.{ints, to_z-of_z, unsigned_abs-mul}
 use mir.Val.{to_z, of_z}
 use mir.Syntax.{w128}
-use Rattle.width_check.proofs.Steps.{items_drop}
+use Rattle.program_names.proofs.Items.{drop_step}
 use Rattle.size_terms.specs.Rows.{dot, coefficient_weight}
 use Rattle.size_terms.proofs.SumLaws.{fits_small, fits_sum}
 
@@ -18,7 +18,7 @@ product_below size by h =
 -- one more product
 dot_step : (by : List ℤ) (sizes : List ℕ) (i : ℕ) → i < length by → i < length sizes → dot (drop i by) (drop i sizes) ≡ (pos (get_or sizes i 0) *ℤ get_or by i (pos 0)) +ℤ dot (drop (i + 1) by) (drop (i + 1) sizes)
 dot_step by sizes i h k =
-    ap (λ z. dot z (drop i sizes)) (items_drop by i (get_or by i (pos 0)) h (here_z by i)) ∙ ap (λ z. dot (get_or by i (pos 0) ∷ drop (i + 1) by) z) (items_drop sizes i (get_or sizes i 0) k (here_n sizes i))
+    ap (λ z. dot z (drop i sizes)) (drop_step by i (get_or by i (pos 0)) h (here_z by i)) ∙ ap (λ z. dot (get_or by i (pos 0) ∷ drop (i + 1) by) z) (drop_step sizes i (get_or sizes i 0) k (here_n sizes i))
   where
     here_z : (xs : List ℤ) (i : ℕ) → get_or xs i (pos 0) ≡ get_or xs i (get_or xs i (pos 0))
     here_z [] i = refl
@@ -31,7 +31,7 @@ dot_step by sizes i h k =
     here_n (x ∷ xs) (suc i) = here_n xs i
 
 weight_step : (by : List ℤ) (i : ℕ) → i < length by → coefficient_weight (drop i by) ≡ unsigned_abs (get_or by i (pos 0)) + coefficient_weight (drop (i + 1) by)
-weight_step by i h = ap coefficient_weight (items_drop by i (get_or by i (pos 0)) h (here by i))
+weight_step by i h = ap coefficient_weight (drop_step by i (get_or by i (pos 0)) h (here by i))
   where
     here : (xs : List ℤ) (i : ℕ) → get_or xs i (pos 0) ≡ get_or xs i (get_or xs i (pos 0))
     here [] i = refl

@@ -1,6 +1,6 @@
 //! The terms of a program.
 
-ghost use Rattle.std.specs.Prelude.{◌≡◌, ◌≤◌, ◌++◌, true, [], IfOk, OnOk, length};
+ghost use Rattle.std.specs.Prelude.{◌≡◌, ◌≤◌, ◌<◌, ◌*◌, ◌^◌, ◌++◌, true, [], IfOk, IfSome, OnOk, length};
 ghost use Rattle.std.specs.List.{list_all};
 ghost use Rattle.elastic_ast.specs.Seen.{seen_decl, seen_decls};
 ghost use Rattle.elastic_ast.specs.Sizes.SizeSums.{symbol_name, symbols_of, comps_of as comps_of_decl, comparisons, utility_terms, utility};
@@ -91,6 +91,7 @@ fn assume_rows(
     requires short { list_all is_short (comparisons (seen_decls decls.now)) ≡ true }
     ensures { IfOk result (AreAssumeRows places.now (seen_decls decls.now)) }
 {
+    try_room(alloc, symbols, decls)?;
     let mut rows = Items::new(alloc);
     for decl in decls {
         push_comparisons(alloc, places, symbols, &mut rows, comps_of(decl))?;
@@ -106,6 +107,34 @@ fn comps_of<'a>(decl: &'a Decl) -> &'a [Comp]
         Decl::Assume(comps) => comps.as_slice(),
         _ => &[],
     }
+}
+
+/// How many comparisons the assume clauses make, where the number can be held.
+fn comparison_count(decls: &[Decl]) -> Option<usize>
+    ensures { IfSome result (λ count. count ≡ length (comparisons (seen_decls decls.now))) }
+{
+    let mut count = 0usize;
+    for decl in decls {
+        match count.checked_add(comps_of(decl).len()) {
+            Some(sum) => count = sum,
+            None => return None,
+        }
+    }
+    Some(count)
+}
+
+/// Takes the memory for a row of each comparison, and gives it back: where there is too little for all rows, none is begun.
+fn try_room(alloc: Global, symbols: usize, decls: &[Decl]) -> Result<(), AllocError>
+    ensures { OnOk result (symbols * length (comparisons (seen_decls decls.now)) < 2 ^ 64) }
+{
+    let Some(count) = comparison_count(decls) else {
+        return Err(AllocError);
+    };
+    let Some(numbers) = symbols.checked_mul(count) else {
+        return Err(AllocError);
+    };
+    let mut room: Vec<i128> = Vec::new(alloc);
+    room.reserve(numbers)
 }
 
 /// The terms of the utility, none where none is declared.

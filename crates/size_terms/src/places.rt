@@ -1,10 +1,11 @@
 //! The places of symbols, by their names.
 
-ghost use Rattle.std.specs.Prelude.{◌≡◌, IfOk, OnOk};
-ghost use Rattle.size_terms.specs.Places.{place_of as place_of_all, Enters};
+ghost use Rattle.std.specs.Prelude.{◌≡◌, IfOk};
+ghost use Rattle.size_terms.specs.Places.{place_of as place_of_all};
 
 use elx_bits::Name;
 use indexmap::IndexMap;
+use program_names::enter;
 use std::alloc::{AllocError, Global};
 use std::marker::Model;
 
@@ -27,20 +28,6 @@ impl<'a> Model for Places<'a> {
     ghost view = { λ places. places.symbols.now };
 
     ghost invariant = { λ places. HasPlaces places.symbols.now places.table.entries };
-}
-
-/// Gives a name its place, if it has none yet.
-fn enter<'a>(
-    table: &mut IndexMap<&'a [u8], usize>,
-    name: &'a [u8],
-    place: usize,
-) -> Result<(), AllocError>
-    ensures { OnOk result (Enters table.old.entries table.new.entries name.now place) }
-{
-    if !table.contains_key(name) {
-        table.insert(name, place)?;
-    }
-    Ok(())
 }
 
 impl<'a> Places<'a> {

@@ -1,7 +1,7 @@
 -- Bounds that are lowered row by row.
 use Rattle.std.proofs.Common.{◌≡◌, ℕ, zero, suc, ◌+◌, ◌<◌, ◌≤◌, List, [], ◌∷◌, length, drop, get_or, Option, Some, None, refl, sym, ap, ◌∙◌, subst, arith}
 use Rattle.elastic_ast.specs.declared.flat.Linear.{Linear}
-use Rattle.width_check.proofs.Steps.{items_drop}
+use Rattle.program_names.proofs.Items.{drop_step}
 use Rattle.unroll_bound.specs.Bound.{lesser, row_bound, rows_bound}
 use Rattle.unroll_bound.specs.LoweredBounds.{AreLowered}
 
@@ -23,7 +23,7 @@ pub lowered_step : (old mid new : List (Option ℕ)) (rows : List Linear) (i : �
     → AreLowered mid new (λ place. rows_bound place (drop (i + 1) rows)) → AreLowered old new (λ place. rows_bound place (drop i rows))
 lowered_step old mid new rows i row h e x y =
     let P : List Linear → Type 0 = λ z. AreLowered old new (λ place. rows_bound place z) in
-    subst P (sym (items_drop rows i row h e)) record {
+    subst P (sym (drop_step rows i row h e)) record {
       dense = y.dense ∙ x.dense;
       each = λ place within.
           let more : place < length mid = let d = x.dense in omega (arith, d) in

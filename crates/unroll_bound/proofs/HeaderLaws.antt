@@ -15,7 +15,7 @@ use Rattle.std.proofs.lemmas.Bool.Decides.{nat_tests}
 use Rattle.elastic_ast.specs.declared.declarations.Field.{Field}
 use Rattle.elastic_ast.specs.Tree.{Name, PlainDecl}
 use Rattle.size_terms.specs.Places.{place_of}
-use Rattle.width_check.proofs.Steps.{items_drop}
+use Rattle.program_names.proofs.Items.{drop_step}
 use Rattle.unroll_bound.specs.HeaderUse.{capped, width_for, element_bits, AddsFields, IsUseOf}
 use Rattle.unroll_bound.specs.HeaderTypes.{headers_counted}
 use Rattle.unroll_bound.specs.declared.header.HeaderUse.{HeaderUse}
@@ -109,7 +109,7 @@ adds_array symbols old new field name at x some here dense sum kept changed = re
 -- one more field
 pub adds_step : (symbols : List Name) (old mid new : HeaderUse) (fields : List Field) (i : ℕ) (field : Field) → i < length fields → field ≡ get_or fields i field → AddsFields symbols old mid (field ∷ []) → AddsFields symbols mid new (drop (i + 1) fields)
     → AddsFields symbols old new (drop i fields)
-adds_step symbols old mid new fields i field h e x y = let P : List Field → Type 0 = λ z. AddsFields symbols old new z in subst P (sym (items_drop fields i field h e)) (adds_both symbols old mid new (field ∷ []) (drop (i + 1) fields) x y)
+adds_step symbols old mid new fields i field h e x y = let P : List Field → Type 0 = λ z. AddsFields symbols old new z in subst P (sym (drop_step fields i field h e)) (adds_both symbols old mid new (field ∷ []) (drop (i + 1) fields) x y)
 
 zeros_at : (n place zero_bits : ℕ) → zero_bits ≡ 0 → get_or (replicate n zero_bits) place 0 ≡ zero_bits
 zeros_at zero place z e = sym e

@@ -1,5 +1,5 @@
 -- The bits of header types in their table, and of the members of `headers_t`.
-use Rattle.std.proofs.Common.{◌≡◌, ℕ, ◌+◌, ◌-◌, ◌^◌, ◌<◌, ◌≤◌, Bool, true, false, List, [], ◌∷◌, drop, drop_of_length-le, length, get_or, Option, Some, None, is_some, refl, sym, ap, ◌∙◌, arith, min}
+use Rattle.std.proofs.Common.{◌≡◌, ℕ, ◌+◌, ◌-◌, ◌^◌, ◌<◌, ◌≤◌, Bool, true, false, List, [], ◌∷◌, drop, drop_of_length-le, length, get_or, Option, Some, None, refl, sym, ap, ◌∙◌, arith, min}
 use Rattle.std.specs.Prelude.{if◌then◌else◌, sum_by, option_map, unwrap_or}
 use Rattle.std.proofs.lemmas.List.Sums.{sum_by-cons}
 use denote.Bor.{Bor}
@@ -10,8 +10,8 @@ use Rattle.elastic_ast.specs.Seen.{seen_decl, seen_decls}
 use Rattle.elastic_ast.specs.Typing.Scope.{same, or_else, found}
 use Rattle.elastic_ast.specs.Typing.LookUps.{header_type_in, bits_of_fields}
 use Rattle.elastic_ast.specs.Units.UnitsOf.{member_bits}
-use Rattle.size_terms.specs.Places.{entered, Enters}
-use Rattle.width_check.proofs.Steps.{items_drop}
+use Rattle.program_names.specs.FirstNamed.{entry_value, EntersValue}
+use Rattle.program_names.proofs.Items.{drop_step}
 use Rattle.unroll_bound.specs.HeaderUse.{capped}
 use Rattle.unroll_bound.specs.HeaderTypes.{fields_counted, type_bits, HasTypeBits, EntersType, entered_bits}
 
@@ -19,7 +19,7 @@ use Rattle.unroll_bound.specs.HeaderTypes.{fields_counted, type_bits, HasTypeBit
 pub counted_step : {X : Type 0} (f : X → ℕ) (xs : List X) (i : ℕ) (x : X) (old new own whole : ℕ) → i < length xs → x ≡ get_or xs i x → capped own ≡ capped (f x) → new ≡ min (old + own) (2 ^ 64 - 1)
     → capped (old + sum_by f (drop i xs)) ≡ whole → capped (new + sum_by f (drop (i + 1) xs)) ≡ whole
 counted_step f xs i x old new own whole h e is sum inv =
-    let parts : sum_by f (drop i xs) ≡ f x + sum_by f (drop (i + 1) xs) = ap (sum_by f) (items_drop xs i x h e) ∙ sum_by-cons f x (drop (i + 1) xs) in
+    let parts : sum_by f (drop i xs) ≡ f x + sum_by f (drop (i + 1) xs) = ap (sum_by f) (drop_step xs i x h e) ∙ sum_by-cons f x (drop (i + 1) xs) in
     step (f x) (sum_by f (drop (i + 1) xs)) (sum_by f (drop i xs)) parts is inv
   where
     step : (a rest both : ℕ) → both ≡ a + rest → capped own ≡ capped a → capped (old + both) ≡ whole → capped (new + rest) ≡ whole
@@ -32,25 +32,21 @@ counted_all f xs i bits whole h small inv = last (sum_by f (drop i xs)) (ap (sum
     last : (rest : ℕ) → rest ≡ 0 → capped (bits + rest) ≡ whole → bits ≡ whole
     last rest z inv = omega arith
 
-pub absent : {A : Type 0} (o : Option A) → is_some o ≡ false → o ≡ None
-absent None h = refl
-absent (Some x) h = cc
-
--- the header type of a declaration, entered or not
-pub enters_type : (old new : List (Bor (List ℕ) × ℕ)) (type : Name) (fields : List Field) (bits : ℕ) → bits ≡ fields_counted fields → (key : Bor (List ℕ)) → key.now ≡ type → Enters old new key.now bits
+-- the header type of a declaration, entry_value or not
+pub enters_type : (old new : List (Bor (List ℕ) × ℕ)) (type : Name) (fields : List Field) (bits : ℕ) → bits ≡ fields_counted fields → (key : Bor (List ℕ)) → key.now ≡ type → EntersValue old new key.now bits
     → EntersType old new (PlainDecl.Header type fields)
-enters_type old new type fields bits e key named enters name = enters name ∙ ap (λ z. or_else (entered old name) (if same name z then Some bits else None)) named ∙ ap (or_else (entered old name)) (by (same name type))
+enters_type old new type fields bits e key named enters name = enters name ∙ ap (λ z. or_else (entry_value old name) (if same name z then Some bits else None)) named ∙ ap (or_else (entry_value old name)) (by (same name type))
   where
     by : (b : Bool) → (if b then Some bits else None) ≡ option_map fields_counted (if b then Some fields else None)
     by true = ap Some e
     by false = refl
 
 pub type_step : (decls : List Decl) (i : ℕ) (decl : Decl) (old new : List (Bor (List ℕ) × ℕ)) (name : Name) (whole : Option ℕ) → i < length decls → decl ≡ get_or decls i decl → EntersType old new (seen_decl decl)
-    → or_else (entered old name) (found (type_bits name) (seen_decls (drop i decls))) ≡ whole → or_else (entered new name) (found (type_bits name) (seen_decls (drop (i + 1) decls))) ≡ whole
+    → or_else (entry_value old name) (found (type_bits name) (seen_decls (drop i decls))) ≡ whole → or_else (entry_value new name) (found (type_bits name) (seen_decls (drop (i + 1) decls))) ≡ whole
 type_step decls i decl old new name whole h e enters inv =
     ap (λ z. or_else z (found (type_bits name) (seen_decls (drop (i + 1) decls)))) (enters name)
-    ∙ both (entered old name) (type_bits name (seen_decl decl)) (found (type_bits name) (seen_decls (drop (i + 1) decls)))
-    ∙ ap (λ z. or_else (entered old name) (found (type_bits name) (seen_decls z))) (sym (items_drop decls i decl h e)) ∙ inv
+    ∙ both (entry_value old name) (type_bits name (seen_decl decl)) (found (type_bits name) (seen_decls (drop (i + 1) decls)))
+    ∙ ap (λ z. or_else (entry_value old name) (found (type_bits name) (seen_decls z))) (sym (drop_step decls i decl h e)) ∙ inv
   where
     both : (a b c : Option ℕ) → or_else (or_else a b) c ≡ or_else a (or_else b c)
     both None b c = refl

@@ -9,6 +9,7 @@ ghost use Rattle.unroll_bound.specs.HeaderTypes.{fields_counted, HasTypeBits, En
 use elastic_ast::{Decl, Field};
 use elx_bits::Name;
 use indexmap::IndexMap;
+use program_names::enter;
 use std::alloc::{AllocError, Global};
 
 /// The bits of fields together.
@@ -28,9 +29,7 @@ fn enter_type<'a>(table: &mut IndexMap<&'a [u8], u64>, decl: &'a Decl) -> Result
 {
     if let Decl::Header { name, fields } = decl {
         let name = name.as_slice();
-        if !table.contains_key(name) {
-            table.insert(name, bits_of_fields(fields.as_slice()))?;
-        }
+        enter(table, name, bits_of_fields(fields.as_slice()))?;
     }
     Ok(())
 }

@@ -1,5 +1,5 @@
 -- What a declaration breaks, part by part, and where names with two underscores are allowed.
-use Rattle.std.proofs.Common.{◌≡◌, ℕ, zero, suc, ◌<◌, inl, inr, Bool, true, false, List, [], ◌∷◌, drop, length, get_or, Option, Some, None, refl, sym, ap, ◌∙◌, true≢false, arith}
+use Rattle.std.proofs.Common.{◌≡◌, ℕ, zero, suc, ◌<◌, inl, inr, Bool, true, false, List, [], ◌∷◌, length, get_or, Option, Some, None, refl, sym, ap, ◌∙◌, true≢false, arith}
 use Rattle.std.specs.Prelude.{if◌then◌else◌, slice_get}
 use Rattle.elastic_ast.specs.declared.declarations.Decl.{Decl}
 use Rattle.elastic_ast.specs.declared.rule.Rule.{Rule}
@@ -12,7 +12,6 @@ use Rattle.elastic_ast.specs.Typing.AskedOfNames.{asks_names, top_name, top_name
 use Rattle.elastic_ast.specs.Typing.Asked.{asks_decl, is_first}
 use Rattle.elastic_ast.specs.Typing.Typed.{Typed, broken_rule}
 use Rattle.elastic_ast.proofs.Typing.First.{first-append}
-use Rattle.width_check.specs.Scoped.{before_of, next_names, name_broken}
 
 -- the rule that a declaration breaks beside its name
 abbrev pub other_broken : Bool → Bool → Option Rule → Option Rule
@@ -24,18 +23,6 @@ unfolding broken_rule
 broken_parts allow before d first e =
     first-append allow (asks_names (top_names before) (top_name d)) (First (is_first before d) ∷ asks_decl before d)
     ∙ ap (λ b. or_else (first_broken allow (asks_names (top_names before) (top_name d))) (other_broken allow b (first_broken allow (asks_decl before d)))) (sym e)
-
-got_suc : (ds : List Decl) (i : ℕ) (d : Decl) → slice_get ds i ≡ Some d → next_names (drop i ds) ≡ top_name (seen_decl d)
-got_suc [] i d e = cc
-got_suc (x ∷ ds) zero d e = let s : x ≡ d = cc in ap (λ z. top_name (seen_decl z)) s
-got_suc (x ∷ ds) (suc i) d e = got_suc ds i d e
-
--- the rule that the next declaration breaks, by the scope
-pub next_parts : (allow : Bool) (place : List Decl × ℕ) (d : Decl) (first : Bool) → slice_get place.0 place.1 ≡ Some d → first ≡ is_first (before_of place) (seen_decl d)
-    → broken_rule allow (before_of place) (seen_decl d) ≡ or_else (name_broken allow place) (other_broken allow first (first_broken allow (asks_decl (before_of place) (seen_decl d))))
-next_parts allow place d first here e =
-    broken_parts allow (before_of place) (seen_decl d) first e
-    ∙ ap (λ z. or_else (first_broken allow (asks_names (top_names (before_of place)) z)) (other_broken allow first (first_broken allow (asks_decl (before_of place) (seen_decl d))))) (sym (got_suc place.0 place.1 d here))
 
 -- the element of an index
 pub got : {X : Type 0} (xs : List X) (i : ℕ) (x : X) → i < length xs → x ≡ get_or xs i x → slice_get xs i ≡ Some x

@@ -2,24 +2,27 @@
 use Rattle.std.proofs.Common.{◌≡◌, ℕ, ◌+◌, ◌<◌, ◌≤◌, ◌⊎◌, inl, inr, Bool, true, false, List, [], ◌∷◌, ◌++◌, take, length, Option, Some, None, sym, ap, subst, ◌∙◌, true≢false, arith}
 use Rattle.std.specs.Prelude.{slice_get}
 use Rattle.std.proofs.Math.Nat.{eq-or-lt_of_le}
-use Rattle.std.proofs.lemmas.List.{take-map}
+use Rattle.std.proofs.lemmas.List.{length-map, take-map}
 use Rattle.std.proofs.lemmas.Option.{slice_get_within}
 use Rattle.elastic_ast.specs.declared.declarations.Decl.{Decl}
 use Rattle.elastic_ast.specs.Seen.{seen_decl, seen_decls}
-use Rattle.width_check.specs.FirstRules.{next_breaks}
+use Rattle.width_check.specs.Walked.{next_breaks, UpTo, AsksWhatIs, KeepsWhole, NamesStates, HasNamesBefore, HasNamesOfAll, IsAskedFirst, before_asked, IsWholeFirst, IsFirstBroken}
 use Rattle.elastic_ast.specs.declared.rule.Rule.{Rule}
 use Rattle.elastic_ast.specs.Tree.{PlainDecl}
 use Rattle.elastic_ast.specs.Typing.Demand.{Demand, First, first_broken}
-use Rattle.elastic_ast.specs.Typing.AskedOfNames.{asks_names, top_names}
+use Rattle.elastic_ast.specs.Typing.AskedOfNames.{asks_names, top_name, top_names}
 use Rattle.elastic_ast.specs.Typing.ParserLoops.{state_names}
 use Rattle.elastic_ast.specs.Typing.Asked.{asks_decl, asks_structs, asked, is_first}
 use Rattle.elastic_ast.specs.Typing.Typed.{AsksTooMuch, Breaks, broken_rule}
 use Rattle.elastic_ast.proofs.Typing.First.{first-append}
 use Rattle.elastic_ast.proofs.Typing.TypedLaws.{all_met, none_both}
 use Rattle.width_check.specs.declared.checking.TypeError.{TypeError}
+use Rattle.expr_types.specs.Scoped.{HasNames}
 use Rattle.width_check.specs.WholeRules.{IsWholeRule, HasNamedStates}
-use Rattle.width_check.specs.Walked.{UpTo, AsksWhatIs, KeepsWhole, NamesStates, IsAskedFirst, before_asked, IsWholeFirst, IsFirstBroken}
+use Rattle.program_names.specs.Distinct.{are_new}
+use Rattle.program_names.specs.declared.names.Names.{Names}
 use Rattle.width_check.proofs.CheckLaws.{first_allowed}
+use Rattle.expr_types.proofs.ScopeLaws.{new_names}
 
 -- a declaration of which all is so that it asks breaks a rule of the whole program alone
 unbroken : (allow : Bool) (before : List PlainDecl) (rule : Rule) (decl : PlainDecl) → broken_rule allow before decl ≡ None → AsksTooMuch allow before rule decl → ⊥
@@ -71,6 +74,11 @@ asked_found allow decls (Some error) found whole = record {
 both_fine : (allow : Bool) (one other : List Demand) → first_broken allow (one ++ other) ≡ None → (first_broken allow one ≡ None) × (first_broken allow other ≡ None)
 both_fine allow one other h = none_both (first_broken allow one) (first_broken allow other) (sym (first-append allow one other) ∙ h)
 
+-- the name of a declaration is new where all is so that it asks
+pub name_fresh : (allow : Bool) (before : List PlainDecl) (decl : PlainDecl) → broken_rule allow before decl ≡ None → are_new (top_names before) (top_name decl) ≡ true
+unfolding broken_rule
+name_fresh allow before decl fine = new_names allow (top_names before) (top_name decl) (both_fine allow (asks_names (top_names before) (top_name decl)) (First (is_first before decl) ∷ asks_decl before decl) fine).0
+
 -- with reserved names
 allowing : (allow : Bool) (qs : List Demand) → first_broken allow qs ≡ None → first_broken true qs ≡ None
 allowing true qs h = h
@@ -110,3 +118,12 @@ next_here allow decls place number decl here = ap (λ z. broken_rule allow z (se
 pub whole_rule : (given taken : List Decl) (decl : PlainDecl) (found rule : Option Rule) → given ≡ taken → found ≡ rule → IsWholeRule (seen_decls given) decl found → IsWholeRule (seen_decls taken) decl rule
 whole_rule given taken decl found rule same is holds =
     subst (λ (z : List Decl). IsWholeRule (seen_decls z) decl rule) same (subst (λ (z : Option Rule). IsWholeRule (seen_decls given) decl z) is holds)
+
+-- tables of the declarations before the first that asks what isn't so are those of all, where there is none
+pub names_of_all : (decls : List Decl) (asked : Option TypeError) (names : Names) → HasNamesBefore decls asked names → HasNamesOfAll decls asked names
+names_of_all decls None names has = subst (λ (n : ℕ). HasNames (decls, n) names) (length-map decls seen_decl) has
+names_of_all decls (Some error) names has = tt
+
+-- the tables of a walk that has come to the end
+pub names_at_end : (decls : List Decl) (place : List Decl × ℕ) (names : Names) → place ≡ (decls, length decls) → HasNames place names → HasNamesBefore decls None names
+names_at_end decls place names here has = subst (λ (n : ℕ). HasNames (decls, n) names) (sym (length-map decls seen_decl)) (subst (λ (z : List Decl × ℕ). HasNames z names) here has)

@@ -5,7 +5,7 @@ use Rattle.elastic_ast.specs.Tree.{PlainDecl}
 use Rattle.elastic_ast.specs.Typing.Asked.{DeclKind, decl_kind, is_of_kind, has, is_first}
 use Rattle.width_check.specs.declared.kinds.Kinds.{Kinds}
 use Rattle.width_check.specs.Kinds.{flag, with_kind, lacks_kind, AreKinds}
-use Rattle.width_check.proofs.ScopeLaws.{has_step}
+use Rattle.expr_types.proofs.ScopeLaws.{has_step}
 
 or_true : (b : Bool) → true ≡ (b || true)
 or_true true = refl

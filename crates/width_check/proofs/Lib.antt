@@ -1,15 +1,6 @@
-pub mod Underscores
-pub mod Rising
-pub mod Tables
-pub mod ScopeLaws
-pub mod Steps
 pub mod CheckLaws
 pub mod BrokenLaws
+pub mod KindLaws
+pub mod WalkLaws
 pub mod WholeLaws
 pub mod FoundLaws
-pub mod SortLaws
-pub mod PowerLaws
-pub mod StatementLaws
-pub mod CallerLaws
-pub mod ActionLaws
-pub mod KindLaws

@@ -1,16 +1,5 @@
-pub mod Table
 pub mod Kinds
-pub mod Scoped
 pub mod Broken
 pub mod Sound
 pub mod WholeRules
 pub mod Walked
-pub mod FirstRules
-pub mod Placed
-pub mod PlaceRules
-pub mod PartRules
-pub mod SetRules
-pub mod TableRules
-pub mod CallerSizes
-pub mod NamedParts
-pub mod ActionRules

@@ -2,11 +2,17 @@
 -- whole program, and of both the first; this project's own.
 use Rattle.std.specs.Prelude.{◌≡◌, ℕ, ◌<◌, Bool, List, take, length, Option, Some, None, slice_get}
 use Rattle.elastic_ast.specs.declared.rule.Rule.{Rule}
+use Rattle.elastic_ast.specs.declared.declarations.Decl.{Decl}
 use Rattle.elastic_ast.specs.Tree.{PlainDecl}
+use Rattle.elastic_ast.specs.Seen.{seen_decls, seen_decl}
+use Rattle.program_names.specs.declared.names.Names.{Names}
+use Rattle.expr_types.specs.Scoped.{HasNames, before_of}
 use Rattle.elastic_ast.specs.Typing.Typed.{Typed, broken_rule}
 use Rattle.width_check.specs.Broken.{BreaksFirst, BreaksWholeFirst}
 use Rattle.width_check.specs.WholeRules.{IsWholeRule, HasNamedStates}
 use Rattle.width_check.specs.declared.checking.TypeError.{TypeError}
+use Rattle.width_check.specs.declared.kinds.Kinds.{Kinds}
+use Rattle.width_check.specs.Kinds.{AreKinds}
 
 -- something holds of each declaration up to a number, and of its own number
 abbrev pub UpTo : List PlainDecl → ℕ → (ℕ → PlainDecl → Type 0) → Type 0
@@ -40,6 +46,15 @@ abbrev pub before_asked : List PlainDecl → Option TypeError → ℕ
 before_asked decls (Some error) = error.decl
 before_asked decls None = length decls
 
+-- tables are those of the declarations before it
+abbrev pub HasNamesBefore : List Decl → Option TypeError → Names → Type 0
+HasNamesBefore decls asked names = HasNames (decls, before_asked (seen_decls decls) asked) names
+
+-- tables are those of all declarations, where nothing is broken
+abbrev pub HasNamesOfAll : List Decl → Option TypeError → Names → Type 0
+HasNamesOfAll decls (Some error) names = Unit {0}
+HasNamesOfAll decls None names = HasNames (decls, length decls) names
+
 -- the first declaration up to a number that breaks a rule of the whole program, and that rule
 pub record KeepsFirst (decls : List PlainDecl) (count : ℕ) (rule : Rule) (number : ℕ) : Type 0 where
   pub decl : PlainDecl
@@ -56,3 +71,11 @@ IsWholeFirst decls count None = KeepsWhole decls count
 abbrev pub IsFirstBroken : Bool → List PlainDecl → Option TypeError → Type 0
 IsFirstBroken allow decls (Some error) = BreaksFirst allow decls error.rule error.decl
 IsFirstBroken allow decls None = Typed allow decls
+
+-- what a walk over the declarations knows of those before its place
+pub record HasPassed (place : List Decl × ℕ) (kinds : Kinds) (names : Names) : Type 0 where
+  pub named : HasNames place names
+  pub once : AreKinds kinds (before_of place)
+
+abbrev pub next_breaks : Bool → List Decl × ℕ → Decl → Option Rule
+next_breaks allow place decl = broken_rule allow (before_of place) (seen_decl decl)

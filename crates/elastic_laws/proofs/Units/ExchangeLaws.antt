@@ -15,6 +15,7 @@ use Rattle.elastic_ast.specs.Units.UnitsOf.{units_of}
 use Rattle.elastic_ast.specs.Units.Order.{Relation, coincide, touches, meet, relation, order_of}
 use Rattle.elastic_ast.specs.Units.Reach.{is_own, one_thing}
 use Rattle.elastic_ast.specs.Units.Work.{index_around, after_instance}
+use Rattle.elastic_ast.proofs.SameLocations.{thing_self}
 use Rattle.elastic_laws.specs.Units.Footprints.{spot_of, same_spot, covers, HasFootprint, TablesFit, KeepsTo, InstancesHaveFootprints, UnitsHaveFootprints}
 use Rattle.elastic_laws.specs.Units.Exchange.{Undisturbed, AreFree, writes_of, OfEachTwo, OrderIsUndisturbed, OrderIsFree, FreeExchange}
 use Rattle.elastic_ast.proofs.Containers.PlaceLaws.{place_tells, index_told}
@@ -52,14 +53,6 @@ spot_told (Reg n i) (At q) e = cc
 spot_told (Reg n i) (Reg m j) e =
     let p = and_parts (same n m) (option_eq nat_eq i j) e in
     ap₂ Reg ((bytes_eq-Decides n m).0 p.0) (index_told i j (sym p.1))
-
-thing_self : (x : Location) → one_thing x x ≡ true
-thing_self (location.Header h f) = ap₂ (λ a b. a && b) ((bytes_eq-Decides h h).1 refl) ((bytes_eq-Decides f f).1 refl)
-thing_self (location.Valid h) = (bytes_eq-Decides h h).1 refl
-thing_self (location.Meta n o) = (bytes_eq-Decides n n).1 refl
-thing_self (location.Std n) = (bytes_eq-Decides n n).1 refl
-thing_self (location.Pred n o) = eq-eqb n n refl
-thing_self (location.Reg n o) = (bytes_eq-Decides n n).1 refl
 
 abbrev place_in : Spot → List ℕ
 place_in (At p) = p

@@ -2,7 +2,7 @@
 use Rattle.std.proofs.Common.{◌≡◌, ℕ, ◌==◌, ◌&&◌, ◌||◌, nat_eq, not, ⊎_elim, Bool, true, false, List, [], ◌∷◌, ◌++◌, Option, Some, None, is_some, refl, sym, ap, ap₂, ◌∙◌, subst, if◌then◌else◌, filter, slice_set, get_or}
 use Rattle.std.specs.Option.{option_eq}
 use Rattle.std.specs.Prelude.{IfSome}
-use Rattle.std.proofs.lemmas.Bool.{or_left, or_right, or_parts, or_cases, eqb-true, eq-eqb, and_parts}
+use Rattle.std.proofs.lemmas.Bool.{or_left, or_right, or_parts, or_cases, eq-eqb}
 use Rattle.std.proofs.lemmas.Slice.Eq.{bytes_eq-Decides}
 use Rattle.elx_bits.specs.Words.{BitWord}
 use Rattle.elastic_ast.specs.declared.flat.Lit.{Lit}
@@ -21,12 +21,13 @@ use Rattle.elastic_ast.specs.Meaning.Matches.{Run, in_sets, run_of, chosen}
 use Rattle.elastic_ast.specs.Meaning.Written.{outside, inside, register_index, cells_at, assigned, plain_writes, body_writes, arguments, action_writes, run_writes, table_writes, leaf_writes}
 use Rattle.elastic_ast.specs.Units.PlainUnits.{PlainWork, Plain, Call, Apply, Pred}
 use Rattle.elastic_ast.specs.Units.Cuts.{Piece}
-use Rattle.elastic_ast.specs.Units.Reach.{location_of, register_location, expr_reads, exprs_read, plain_assigns, body_assigns, action_reads, action_assigns, sets_read, entries_read, fallback_reads, keys_read, actions_read, actions_assign, table_reads, table_assigns, leaf_reads, leaf_assigns, work_reads, work_assigns, lits_read, same_flag, is_own, one_thing, same_location, each_once, piece_reads, piece_writes}
+use Rattle.elastic_ast.specs.Units.Reach.{location_of, register_location, expr_reads, exprs_read, plain_assigns, body_assigns, action_reads, action_assigns, sets_read, entries_read, fallback_reads, keys_read, actions_read, actions_assign, table_reads, table_assigns, leaf_reads, leaf_assigns, work_reads, work_assigns, lits_read, same_location, each_once, piece_reads, piece_writes}
 use Rattle.elastic_ast.specs.Units.UnitsOf.{Around, unit_of}
 use Rattle.elastic_ast.specs.Units.Work.{pred_place, lits_hold, conds_hold, work_writes, writes_if, does}
+use Rattle.elastic_ast.proofs.SameLocations.{location_told}
 use Rattle.elastic_laws.specs.Units.Footprints.{spot_of, same_spot, covers, Agree, HasFootprint, RunFits, EntriesFit, TableFits, TablesFit, KeepsTo}
 use Rattle.elastic_laws.proofs.Units.Depends.{Within, within_left, within_right, lval_spot, register_spot, holds_depends, RunWithin, EntriesWithin, TableWithin, LeafWithin, leaf_depends}
-use Rattle.elastic_ast.proofs.Typing.SameNames.{same_self, same_told}
+use Rattle.elastic_ast.proofs.Typing.SameNames.{same_self}
 
 -- what isn't covered
 none_left : (i : Option ℕ) (l : Spot) (xs ys : List Location) → covers (xs ++ ys) i l ≡ false → covers xs i l ≡ false
@@ -205,29 +206,6 @@ does_depends test ls cs work decls sizes i s t fit h a =
     ap₂ writes_if
     (ap₂ (λ b c. b && c) (lits_depend test ls i s t (within_left test i (lits_read ls) (exprs_read cs ++ work_reads decls work) h) a) (conds_depend test cs decls sizes i s t (within_left test i (exprs_read cs) (work_reads decls work) tail) a))
     (work_depends test work decls sizes i s t fit (within_right test i (exprs_read cs) (work_reads decls work) tail) a)
-
--- two locations that are the same
-flag_told : (a b : Bool) → same_flag a b ≡ true → a ≡ b
-flag_told true true e = refl
-flag_told false false e = refl
-flag_told true false e = cc
-flag_told false true e = cc
-
-thing_told : (a b : Location) → one_thing a b ≡ true → is_own a ≡ is_own b → a ≡ b
-thing_told (location.Header h f) (location.Header k g) e own =
-    let p = and_parts (same h k) (same f g) e in
-    ap₂ location.Header (same_told h k p.0) (same_told f g p.1)
-thing_told (location.Valid h) (location.Valid k) e own = ap location.Valid (same_told h k e)
-thing_told (location.Meta n o) (location.Meta m p) e own = ap₂ location.Meta (same_told n m e) own
-thing_told (location.Std n) (location.Std m) e own = ap location.Std (same_told n m e)
-thing_told (location.Pred n o) (location.Pred m p) e own = ap₂ location.Pred (eqb-true n m e) own
-thing_told (location.Reg n o) (location.Reg m p) e own = ap₂ location.Reg (same_told n m e) own
-thing_told a b e own = cc
-
-location_told : (a b : Location) → same_location a b ≡ true → a ≡ b
-location_told a b e =
-    let p = and_parts (one_thing a b) (same_flag (is_own a) (is_own b)) e in
-    thing_told a b p.0 (flag_told (is_own a) (is_own b) p.1)
 
 -- a list of locations without doubles covers the same spots
 kept_first : (a b c d : Bool) → (a || c) ≡ (a || d) → (a || (b || c)) ≡ (a || (b || d))

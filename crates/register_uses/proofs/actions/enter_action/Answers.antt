@@ -3,7 +3,7 @@ use Rattle.elastic_ast.specs.Seen.{seen_local}
 use Rattle.elastic_ast.specs.declared.declarations.Local.TheVariants as local
 use Rattle.std.proofs.lemmas.Result.{on_ok_weaker}
 use Rattle.register_uses.specs.LocalTables.{action_shown, action_given, EntersAction}
-use Rattle.register_uses.proofs.FirstLaws.{enters_nothing}
+use Rattle.program_names.proofs.FirstLaws.{enters_nothing}
 use Rattle.register_uses.proofs.LookUpLaws.{action_entered}
 use Rattle.register_uses.proofs.actions.enter_action.Goals as goal
 

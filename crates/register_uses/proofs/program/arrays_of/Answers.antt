@@ -3,9 +3,9 @@ use Rattle.std.specs.Prelude.{option_map}
 use Rattle.std.proofs.lemmas.List.{at_drop_all}
 use Rattle.elastic_ast.specs.Seen.{seen_decl}
 use Rattle.elastic_ast.specs.Typing.Scope.{or_else, found}
-use Rattle.register_uses.specs.FirstNamed.{entry_value}
+use Rattle.program_names.specs.FirstNamed.{entry_value}
 use Rattle.register_uses.specs.HasUses.{array_shown, array_given}
-use Rattle.register_uses.proofs.FirstLaws.{first_step, first_all}
+use Rattle.program_names.proofs.FirstLaws.{first_step, first_all}
 use Rattle.register_uses.proofs.program.arrays_of.Goals as goal
 
 pub loop-decl-init : goal.loop-decl-init

@@ -3,7 +3,7 @@ use Rattle.std.specs.Prelude.{option_map}
 use Rattle.elastic_ast.specs.Tree.{Name}
 use Rattle.elastic_ast.specs.Seen.{seen_decl}
 use Rattle.elastic_ast.specs.Typing.Scope.{or_else, found}
-use Rattle.register_uses.specs.FirstNamed.{entry_value}
+use Rattle.program_names.specs.FirstNamed.{entry_value}
 use Rattle.register_uses.specs.HasUses.{array_shown, array_given}
 use Rattle.register_uses.proofs.program.arrays_of.Given as goal
 

@@ -3,7 +3,7 @@ use Rattle.std.proofs.lemmas.List.{at_drop_all}
 use Rattle.elastic_ast.specs.Seen.{seen_stmt, seen_stmts}
 use Rattle.elastic_ast.specs.Typing.NamedRegisters.{plain_registers, body_registers}
 use Rattle.register_uses.specs.Summaries.{both, plain_summary, summed}
-use Rattle.register_uses.proofs.FirstLaws.{drop_step}
+use Rattle.program_names.proofs.Items.{drop_step}
 use Rattle.register_uses.proofs.SummaryLaws.{sum_step, both_nothing}
 use Rattle.register_uses.proofs.summary.of_body.Goals as goal
 

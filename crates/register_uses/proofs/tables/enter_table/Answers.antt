@@ -4,7 +4,7 @@ use Rattle.elastic_ast.specs.declared.declarations.Local.TheVariants as local
 use Rattle.std.proofs.lemmas.Result.{on_ok_weaker}
 use Rattle.register_uses.specs.Summaries.{summed}
 use Rattle.register_uses.specs.LocalTables.{named_by_actions, table_shown, table_given, EntersTable}
-use Rattle.register_uses.proofs.FirstLaws.{enters_nothing}
+use Rattle.program_names.proofs.FirstLaws.{enters_nothing}
 use Rattle.register_uses.proofs.LookUpLaws.{table_entered}
 use Rattle.register_uses.proofs.tables.enter_table.Goals as goal
 

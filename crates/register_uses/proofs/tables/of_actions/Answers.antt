@@ -2,7 +2,7 @@ use Rattle.std.proofs.Common.{◌+◌, drop, ap, sym, ◌∙◌}
 use Rattle.std.proofs.lemmas.List.{at_drop_all}
 use Rattle.register_uses.specs.LocalTables.{named_by_action, named_by_actions}
 use Rattle.register_uses.specs.Summaries.{both, plain_summary, summed}
-use Rattle.register_uses.proofs.FirstLaws.{drop_step}
+use Rattle.program_names.proofs.Items.{drop_step}
 use Rattle.register_uses.proofs.SummaryLaws.{sum_step, both_nothing}
 use Rattle.register_uses.proofs.tables.of_actions.Goals as goal
 

@@ -3,9 +3,9 @@ use Rattle.std.specs.Prelude.{option_map}
 use Rattle.std.proofs.lemmas.List.{at_drop_all}
 use Rattle.elastic_ast.specs.Seen.{seen_local}
 use Rattle.elastic_ast.specs.Typing.Scope.{or_else, found}
-use Rattle.register_uses.specs.FirstNamed.{entry_value, HasFirst}
+use Rattle.program_names.specs.FirstNamed.{entry_value, HasFirst}
 use Rattle.register_uses.specs.LocalTables.{seen_locals, table_shown, table_given}
-use Rattle.register_uses.proofs.FirstLaws.{first_step, first_all}
+use Rattle.program_names.proofs.FirstLaws.{first_step, first_all}
 use Rattle.register_uses.proofs.tables.table_of_tables.Goals as goal
 
 pub loop-local-init : goal.loop-local-init

@@ -6,9 +6,9 @@ use Rattle.elastic_ast.proofs.Typing.SameNames.{same_told}
 use Rattle.register_uses.specs.declared.uses.Use.{Use}
 use Rattle.register_uses.specs.declared.uses.Use.TheVariants as usage
 use Rattle.register_uses.specs.Uses.{combined}
-use Rattle.register_uses.specs.FirstNamed.{entry_value}
+use Rattle.program_names.specs.FirstNamed.{entry_value}
 use Rattle.register_uses.specs.Walks.{UseEntries, Notes}
-use Rattle.register_uses.proofs.FirstLaws.{value_insert}
+use Rattle.program_names.proofs.FirstLaws.{value_insert}
 use Rattle.register_uses.proofs.UseLaws.{combined_none}
 use Rattle.register_uses.proofs.uses.note.Goals as goal
 

@@ -5,6 +5,6 @@ use Rattle.width_check.proofs.checking.asked_first.Given as goal
 
 abbrev pub invariant-loop-i : goal.invariant-loop-i
 invariant-loop-i l = record {
-  here : l.scope ≡ (l.decls, l.i);
+  here : l.walk ≡ (l.decls, l.i);
   asks : AsksWhatIs l.allow_reserved (seen_decls l.decls) l.i;
 }

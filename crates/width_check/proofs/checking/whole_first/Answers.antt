@@ -3,7 +3,7 @@ use Rattle.elastic_ast.specs.Seen.{seen_decl, seen_decls}
 use Rattle.width_check.specs.WholeRules.{IsWholeRule}
 use Rattle.width_check.proofs.CheckLaws.{seen_at}
 use Rattle.width_check.proofs.FoundLaws.{whole_rule, up_to_next}
-use Rattle.width_check.proofs.Tables.{not_some}
+use Rattle.stmt_check.proofs.Steps.{not_some}
 use Rattle.width_check.proofs.checking.whole_first.Goals as goal
 
 pub rule_of-requires : goal.rule_of-requires

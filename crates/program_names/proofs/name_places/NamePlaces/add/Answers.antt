@@ -8,7 +8,8 @@ use Rattle.indexmap.proofs.CallerLemmas.{insert_entry-new}
 use Rattle.program_names.specs.Distinct.{are_distinct}
 use Rattle.program_names.specs.Named.{texts}
 use Rattle.program_names.proofs.NewNames.{one_more}
-use Rattle.program_names.proofs.Places.{is_text, known_is, one_none, on_ok, texts_push}
+use Rattle.program_names.proofs.Places.{is_text, known_is, on_ok, texts_push}
+use Rattle.program_names.proofs.Items.{one_none}
 use Rattle.program_names.proofs.name_places.NamePlaces.add.Goals as goal
 
 unknown : (es : List (Vec ℕ Global × Unit {0})) (key n : Name) (names : List Name) → key ≡ n → texts es ≡ names → among names n ≡ false → lookup (is_text key) es ≡ None

@@ -1,5 +1,5 @@
 use Rattle.std.proofs.Common.{ap, ◌∙◌}
-use Rattle.register_uses.specs.FirstNamed.{entry_value}
+use Rattle.program_names.specs.FirstNamed.{entry_value}
 use Rattle.register_uses.proofs.LookUpLaws.{at_action}
 use Rattle.register_uses.proofs.actions.ActionTable.find.Goals as goal
 

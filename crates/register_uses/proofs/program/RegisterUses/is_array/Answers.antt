@@ -4,9 +4,9 @@ use Rattle.elastic_ast.specs.Tree.{Name, PlainDecl}
 use Rattle.elastic_ast.specs.Seen.{seen_decls}
 use Rattle.elastic_ast.specs.Typing.LookUps.{register_size, register_size_in}
 use Rattle.elastic_ast.specs.Typing.NamedRegisters.{is_array}
-use Rattle.register_uses.specs.FirstNamed.{entry_value}
+use Rattle.program_names.specs.FirstNamed.{entry_value}
 use Rattle.register_uses.specs.HasUses.{array_shown}
-use Rattle.register_uses.proofs.FirstLaws.{found_map}
+use Rattle.program_names.proofs.FirstLaws.{found_map}
 use Rattle.register_uses.proofs.program.RegisterUses.is_array.Goals as goal
 
 -- the size of a register, as `is_array` reads it

@@ -1,11 +1,12 @@
 use Rattle.std.proofs.Common.{ap}
 use Rattle.elastic_ast.specs.Typing.Scope.{or_else}
-use Rattle.size_terms.specs.Places.{entered, place_of}
+use Rattle.program_names.specs.FirstNamed.{entry_value}
+use Rattle.size_terms.specs.Places.{place_of}
 use Rattle.size_terms.proofs.PlaceLaws.{enter_step}
 use Rattle.size_terms.proofs.places.Places.of.Goals as goal
 
 pub loop-place-init : goal.loop-place-init
-loop-place-init c name = ap (λ z. or_else (entered z name) (place_of c.args.symbols.now name)) c.new-table.ensures.empty
+loop-place-init c name = ap (λ z. or_else (entry_value z name) (place_of c.args.symbols.now name)) c.new-table.ensures.empty
 
 pub loop-place-preserved : goal.loop-place-preserved
 loop-place-preserved c name =

@@ -1,6 +1,6 @@
 use Rattle.elastic_ast.specs.Seen.{seen_decl}
 use Rattle.width_check.proofs.KindLaws.{kinds_step}
-use Rattle.width_check.proofs.ScopeLaws.{step_take}
+use Rattle.expr_types.proofs.ScopeLaws.{step_take}
 use Rattle.width_check.proofs.kinds.Kinds.of.Goals as goal
 
 pub loop-decl-preserved : goal.loop-decl-preserved

@@ -1,0 +1,9 @@
+pub mod Refusals
+pub mod FirstRules
+pub mod PartRules
+pub mod StateRules
+pub mod TableRules
+pub mod RegisterFree
+pub mod CallerSizes
+pub mod NamedParts
+pub mod ActionRules

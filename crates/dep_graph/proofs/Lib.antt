@@ -1,0 +1,2 @@
+pub mod WithoutUnits
+pub mod IndexLaws

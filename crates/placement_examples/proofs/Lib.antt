@@ -1,0 +1,4 @@
+pub mod FittingTest
+pub mod ArrayLaws
+pub mod OrderLaws
+pub mod RowLaws

@@ -1,5 +1,0 @@
-use Rattle.width_check.specs.CallerSizes.{AreEmpty}
-use Rattle.width_check.proofs.callers.empty_lists.Given as goal
-
-abbrev pub invariant-loop : goal.invariant-loop
-invariant-loop l = AreEmpty l.counter l.lists.items

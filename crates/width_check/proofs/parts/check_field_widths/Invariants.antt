@@ -1,7 +1,0 @@
-use Rattle.std.proofs.Common.{◌≡◌, drop}
-use Rattle.elastic_ast.specs.Typing.Asked.{asks_width}
-use Rattle.width_check.specs.FirstRules.{each_breaks}
-use Rattle.width_check.proofs.parts.check_field_widths.Given as goal
-
-abbrev pub invariant-loop-field : goal.invariant-loop-field
-invariant-loop-field l = each_breaks l.allow_reserved asks_width (drop l.field-index l.fields) ≡ each_breaks l.allow_reserved asks_width l.fields

@@ -1,6 +1,0 @@
-use Rattle.std.proofs.Common.{◌≡◌, drop}
-use Rattle.width_check.specs.PartRules.{headers_break}
-use Rattle.width_check.proofs.parts.check_headers.Given as goal
-
-abbrev pub invariant-loop-header : goal.invariant-loop-header
-invariant-loop-header l = headers_break l.allow_reserved l.scope (drop l.header-index l.headers) ≡ headers_break l.allow_reserved l.scope l.headers

@@ -1,6 +1,0 @@
-use Rattle.std.proofs.Common.{◌≡◌, drop}
-use Rattle.width_check.specs.SetRules.{states_break}
-use Rattle.width_check.proofs.states.check_states.Given as goal
-
-abbrev pub invariant-loop-state : goal.invariant-loop-state
-invariant-loop-state l = states_break l.allow_reserved l.scope l.states (drop l.state-index l.each) ≡ states_break l.allow_reserved l.scope l.states l.each
