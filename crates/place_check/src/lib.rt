@@ -1,0 +1,17 @@
+//! Whether sizes and a placement are feasible on a target, and what they use of it.
+#![tactic(auto)]
+
+mod checking;
+mod conditions;
+mod fault;
+mod listing;
+mod order;
+mod overfull;
+mod uses;
+
+pub use checking::{check, faults_exclude_feasible};
+pub use conditions::{are_sizes_of, names_units};
+pub use dep_graph::Resource;
+pub use fault::PlaceFault;
+pub use listing::listed_instances_stand;
+pub use uses::{StageUse, UseTable, report};

@@ -1,0 +1,10 @@
+use Rattle.expr_types.specs.Scoped.{before_of}
+use Rattle.unit_parts.specs.Called.{OfAction}
+use Rattle.unit_flow.proofs.SummaryLaws.{tell_put}
+use Rattle.unit_flow.proofs.summaries.add_action.Goals as goal
+
+pub returns : goal.returns
+returns c = record {
+  actions = tell_put (before_of c.args.scope.now) OfAction c.args.known.now.actions.entries c.put.new.table.entries c.args.name.now c.in_ok-summary.summary c.in_ok-put.ensures c.in_ok-summary.ensures c.requires.actions;
+  tables = c.requires.tables;
+}

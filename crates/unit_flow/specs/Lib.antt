@@ -1,0 +1,4 @@
+pub mod Callees
+pub mod TableBits
+pub mod Remembered
+pub mod TooLarge

@@ -1,0 +1,11 @@
+//! The units of work of a program.
+#![tactic(auto)]
+
+mod called;
+mod limit;
+mod summaries;
+mod table_bits;
+
+pub use limit::{UnitError, push_unit};
+pub use summaries::{Summaries, needs, summarize};
+pub use table_bits::{TableBits, bits_of};

@@ -1,0 +1,10 @@
+pub mod Gathered
+pub mod Capped
+pub mod Shapes
+pub mod Spread
+pub mod SeenPieces
+pub mod Cutting
+pub mod Called
+pub mod UnitAt
+pub mod Summaries
+pub mod UnitFrom
