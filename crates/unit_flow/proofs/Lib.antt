@@ -1,1 +1,5 @@
 pub mod SummaryLaws
+pub mod NamingLaws
+pub mod ListingLaws
+pub mod ProgramLaws
+pub mod CountLaws

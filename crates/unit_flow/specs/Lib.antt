@@ -2,3 +2,5 @@ pub mod Callees
 pub mod TableBits
 pub mod Remembered
 pub mod TooLarge
+pub mod Knowing
+pub mod HeaderCounts

@@ -1,0 +1,8 @@
+use Rattle.std.proofs.Common.{◌≡◌, drop}
+use Rattle.elastic_ast.specs.Typing.Scope.{found}
+use Rattle.elastic_ast.specs.Packets.MainParts.{control_in}
+use Rattle.elastic_ast.specs.Seen.{seen_decls}
+use Rattle.unit_flow.proofs.body.body_named.Given as goal
+
+abbrev pub invariant-loop-decl : goal.invariant-loop-decl
+invariant-loop-decl l = found (control_in l.name) (seen_decls (drop l.decl-index l.decls)) ≡ found (control_in l.name) (seen_decls l.decls)
