@@ -29,4 +29,6 @@ mod terms;
 #[cfg(test)]
 mod typed_sources;
 #[cfg(test)]
+mod units;
+#[cfg(test)]
 mod vectors;

@@ -3,3 +3,5 @@ pub mod NamingLaws
 pub mod ListingLaws
 pub mod ProgramLaws
 pub mod CountLaws
+pub mod ApartLaws
+pub mod HeaderLaws

@@ -4,3 +4,4 @@ pub mod Remembered
 pub mod TooLarge
 pub mod Knowing
 pub mod HeaderCounts
+pub mod CountedUnits

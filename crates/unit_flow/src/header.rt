@@ -5,8 +5,9 @@ ghost use Rattle.elastic_ast.specs.Seen.{seen_decls};
 ghost use Rattle.elastic_ast.specs.Typing.LookUps.{bits_of_fields as bits_in_fields, members_of, meta_fields};
 ghost use Rattle.elastic_ast.specs.Units.Cuts.{tests_in};
 ghost use Rattle.elastic_ast.specs.Units.SeenUnits.{seen_unit, seen_work};
-ghost use Rattle.elastic_ast.specs.Units.UnitsOf.{member_bits as bits_of_member};
+ghost use Rattle.elastic_ast.specs.Units.UnitsOf.{units_of, fixed_bits, symbol_bits, member_bits as bits_of_member};
 ghost use Rattle.expr_types.specs.Scoped.{before_of};
+ghost use Rattle.width_check.specs.Sound.{IsSound};
 ghost use Rattle.unit_flow.specs.HeaderCounts.{AddsTo, CountsOne, CountsFields, CountsUnits, field_under};
 ghost use Rattle.unit_flow.specs.Knowing.{Knows, known_decls};
 
@@ -14,7 +15,7 @@ use crate::naming::{Known, place_of};
 use elastic_ast::{Decl, Field, Unit, Work};
 use elx_bits::Name;
 use expr_types::Scope;
-use std::alloc::AllocError;
+use std::alloc::{AllocError, Global};
 
 /// Header bits: those at all sizes, and for each symbol those for each one in its size. Numbers that 64 bits don't hold count as
 /// want of memory.
@@ -162,4 +163,26 @@ pub fn metadata<'a>(decls: &'a [Decl]) -> &'a [Field]
         }
     }
     &[]
+}
+
+/// The header bits of a program, of which these are the declarations and the units.
+pub fn header_bits(
+    alloc: Global,
+    known: &Known<'_>,
+    decls: &[Decl],
+    list: &[Unit],
+) -> Result<HeaderBits, AllocError>
+    requires knows { Knows known.now }
+    requires same { known_decls known.now ≡ seen_decls decls.now }
+    requires sound { IsSound (seen_decls decls.now) }
+    requires listed { map seen_unit list.now ≡ units_of (seen_decls decls.now) }
+    ensures fixed { IfOk result (λ bits. bits.fixed ≡ fixed_bits (seen_decls decls.now)) }
+    ensures symbols { IfOk result (λ bits. bits.each.items ≡ symbol_bits (seen_decls decls.now)) }
+{
+    let fixed = members_bits(&known.scope, members(decls))?;
+    let each = vec![in alloc; 0u64; known.count]?;
+    let mut bits = HeaderBits { fixed, each };
+    add_fields(known, &mut bits, metadata(decls))?;
+    add_predicates(&mut bits, list)?;
+    Ok(bits)
 }

@@ -11,6 +11,5 @@ mod program;
 mod summaries;
 mod table_bits;
 
-pub use limit::{UnitError, push_unit};
-pub use summaries::{Summaries, needs, summarize};
-pub use table_bits::{TableBits, bits_of};
+pub use limit::UnitError;
+pub use program::units;

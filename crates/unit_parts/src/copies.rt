@@ -1,6 +1,7 @@
 //! Copies of what a program says, for the units that keep it.
 
 ghost use Rattle.std.specs.Prelude.{◌≡◌, IfOk, map};
+ghost use Rattle.std.specs.Box.{box_value};
 ghost use Rattle.elastic_ast.specs.Seen.{seen_expr, seen_exprs, seen_stmt};
 ghost use Rattle.elastic_ast.specs.Units.SeenUnits.{seen_work};
 ghost use Rattle.elastic_ast.specs.Containers.LocationRefs.{seen_ref};
@@ -61,6 +62,7 @@ fn copy_register(alloc: Global, register: &RegRef) -> Result<RegRef, AllocError>
 }
 
 /// A copy of an expression.
+#[cycle(expressions)]
 #[tactic(auto, using(elastic_ast::proofs::SeenLaws::seen))]
 pub fn copy_expr(alloc: Global, expr: &Expr) -> Result<Expr, AllocError>
     ensures { IfOk result (λ copy. seen_expr copy ≡ seen_expr expr.now) }
@@ -75,47 +77,46 @@ pub fn copy_expr(alloc: Global, expr: &Expr) -> Result<Expr, AllocError>
         Expr::Field(at) => Ok(Expr::Field(copy_lval(alloc, at)?)),
         Expr::IsValid(header) => Ok(Expr::IsValid(copy_name(alloc, header)?)),
         Expr::Unary { op, of } => {
-            let of = copy_expr(alloc, of)?;
-            Ok(Expr::Unary {
-                op: *op,
-                of: Box::new(alloc, of)?,
-            })
+            let of = copy_boxed(alloc, of)?;
+            Ok(Expr::Unary { op: *op, of })
         }
         Expr::Binary { op, left, right } => {
-            let left = copy_expr(alloc, left)?;
-            let right = copy_expr(alloc, right)?;
+            let left = copy_boxed(alloc, left)?;
+            let right = copy_boxed(alloc, right)?;
             Ok(Expr::Binary {
                 op: *op,
-                left: Box::new(alloc, left)?,
-                right: Box::new(alloc, right)?,
+                left,
+                right,
             })
         }
         Expr::Cast { width, of } => {
-            let of = copy_expr(alloc, of)?;
-            Ok(Expr::Cast {
-                width: *width,
-                of: Box::new(alloc, of)?,
-            })
+            let of = copy_boxed(alloc, of)?;
+            Ok(Expr::Cast { width: *width, of })
         }
         Expr::Slice { of, high, low } => {
-            let of = copy_expr(alloc, of)?;
+            let of = copy_boxed(alloc, of)?;
             Ok(Expr::Slice {
-                of: Box::new(alloc, of)?,
+                of,
                 high: *high,
                 low: *low,
             })
         }
         Expr::Hash { k, of, modulus } => {
             let k = copy_amount(alloc, k)?;
-            let of = copy_expr(alloc, of)?;
+            let of = copy_boxed(alloc, of)?;
             let modulus = copy_amount(alloc, modulus)?;
-            Ok(Expr::Hash {
-                k,
-                of: Box::new(alloc, of)?,
-                modulus,
-            })
+            Ok(Expr::Hash { k, of, modulus })
         }
     }
+}
+
+/// A copy of an expression, in a box.
+#[cycle(expressions)]
+fn copy_boxed(alloc: Global, expr: &Expr) -> Result<Box<Expr>, AllocError>
+    ensures { IfOk result (λ copy. seen_expr (box_value copy) ≡ seen_expr expr.now) }
+{
+    let copy = copy_expr(alloc, expr)?;
+    Ok(Box::new(alloc, copy)?)
 }
 
 /// Copies of expressions.
@@ -192,22 +193,14 @@ fn copy_stmt(alloc: Global, stmt: &Stmt) -> Result<Stmt, AllocError>
             stage: *stage,
             body: copy_stmts(alloc, body.as_slice())?,
         }),
-        Stmt::If { cond, yes, no } => {
-            let cond = copy_expr(alloc, cond)?;
-            let yes = copy_stmts(alloc, yes.as_slice())?;
-            match no {
-                None => Ok(Stmt::If {
-                    cond,
-                    yes,
-                    no: None,
-                }),
-                Some(no) => Ok(Stmt::If {
-                    cond,
-                    yes,
-                    no: Some(copy_stmts(alloc, no.as_slice())?),
-                }),
-            }
-        }
+        Stmt::If { cond, yes, no } => Ok(Stmt::If {
+            cond: copy_expr(alloc, cond)?,
+            yes: copy_stmts(alloc, yes.as_slice())?,
+            no: match no {
+                None => None,
+                Some(no) => Some(copy_stmts(alloc, no.as_slice())?),
+            },
+        }),
         Stmt::For { index, size, body } => Ok(Stmt::For {
             index: copy_name(alloc, index)?,
             size: copy_name(alloc, size)?,

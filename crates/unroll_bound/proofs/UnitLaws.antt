@@ -1,34 +1,26 @@
 -- What a typed program without `main` takes: it has no unit, and no two of its symbols have one name.
-use Rattle.std.proofs.Common.{◌≡◌, ◌≢◌, ℕ, zero, suc, ◌+◌, ◌<◌, Bool, true, false, cond, ◌||◌, List, [], ◌∷◌, ◌++◌, length, get_or, Option, Some, None, refl, sym, ap, ◌∙◌, subst, arith, true≢false}
-use Rattle.std.specs.Prelude.{if◌then◌else◌, sum_by, option_and_then, option_map, unwrap_or}
+use Rattle.std.proofs.Common.{◌≡◌, ◌≢◌, ℕ, zero, suc, ◌+◌, ◌<◌, Bool, true, false, cond, ◌||◌, List, [], ◌∷◌, length, get_or, Option, Some, None, refl, sym, ap, ◌∙◌, arith, true≢false}
+use Rattle.std.specs.Prelude.{if◌then◌else◌, sum_by, option_and_then, unwrap_or}
 use Rattle.std.specs.List.{position_from}
 use Rattle.std.proofs.lemmas.Bool.{or_right}
 use Rattle.std.proofs.lemmas.List.{get_or-map}
-use Rattle.std.proofs.lemmas.List.Concat.{flat_map-append}
-use Rattle.std.proofs.lemmas.List.Folds.{list_any-append}
 use Rattle.std.proofs.lemmas.List.Sums.{sum_by-cons}
 use Rattle.elastic_ast.specs.declared.declarations.Field.{Field}
-use Rattle.elastic_ast.specs.declared.rule.Rule.{Rule}
 use Rattle.elastic_ast.specs.Tree.{Name, PlainDecl, PlainStmts}
 use Rattle.elastic_ast.specs.Typing.Scope.{same, among, found}
 use Rattle.elastic_ast.specs.Typing.LookUps.{members_of, meta_fields}
 use Rattle.elastic_ast.specs.Packets.MainParts.{main_in, control_in}
-use Rattle.elastic_ast.specs.Sizes.SizeSums.{symbol_name, symbols_of}
+use Rattle.elastic_ast.specs.Sizes.SizeSums.{symbols_of}
 use Rattle.elastic_ast.specs.Units.Cuts.{cut_all}
-use Rattle.elastic_ast.specs.Typing.AskedOfNames.{asks_names, top_name, top_names}
-use Rattle.elastic_ast.specs.Typing.Asked.{DeclKind, has, asks_decl, is_first}
-use Rattle.elastic_ast.specs.Typing.Demand.{First, first_broken}
-use Rattle.elastic_ast.specs.Typing.Typed.{broken_rule, first_of}
+use Rattle.elastic_ast.specs.Typing.Asked.{DeclKind, has}
 use Rattle.elastic_ast.specs.Units.UnitsOf.{flat, units_of, member_bits, scalar_bits, predicate_bits, fixed_bits, is_of_size, array_bits, bits_of_symbol, symbol_bits}
 use Rattle.elastic_ast.specs.Units.Costs.{place_of_symbol}
-use Rattle.elastic_laws.proofs.Typing.TypedFacts.{parts}
 use Rattle.elastic_ast.proofs.Typing.SameNames.{same_if, same_told}
-use Rattle.elastic_ast.proofs.Typing.TypedLaws.{none_both, unmapped}
-use Rattle.elastic_laws.proofs.Typing.TypedNames.{names_new}
 use Rattle.size_terms.specs.Places.{place_of}
 use Rattle.size_terms.proofs.SumLaws.{within_from}
 use Rattle.width_check.specs.Sound.{IsSound}
 use Rattle.width_check.proofs.BrokenLaws.{typed_walk}
+use Rattle.unit_flow.proofs.ApartLaws.{AreApart, behind}
 use Rattle.unroll_bound.specs.HeaderUse.{width_for, element_bits}
 use Rattle.unroll_bound.specs.NoUnits.{NoMainNoUnits}
 use Rattle.unroll_bound.proofs.Widths.{width_here, width_there}
@@ -47,65 +39,6 @@ pub fixed_law : (decls : List PlainDecl) → has DeclKind.Main decls ≡ false �
 fixed_law decls no_main =
     let units : sum_by (predicate_bits None) (units_of decls) ≡ 0 = ap (sum_by (predicate_bits None)) (no_units decls no_main) in
     omega (arith, units)
-
--- no name stands twice
-abbrev AreApart : List Name → Type 0
-AreApart [] = Unit {0}
-AreApart (name ∷ names) = (among names name ≡ false) × AreApart names
-
--- symbols behind some declarations are apart, and none has a name of these
-record Behind (before decls : List PlainDecl) : Type 0 where
-  apart : AreApart (symbols_of decls)
-  fresh : (name : Name) → among (top_names before) name ≡ true → among (symbols_of decls) name ≡ false
-
--- one more declaration, whose names are new
-one_more : (before decls : List PlainDecl) (decl : PlainDecl) → first_broken true (asks_names (top_names before) (top_name decl)) ≡ None → Behind (before ++ decl ∷ []) decls → Behind before (decl ∷ decls)
-one_more before decls decl new rest = by decl refl
-  where
-    names : (name : Name) → among (top_names (before ++ decl ∷ [])) name ≡ (among (top_names before) name || among (top_name decl ++ []) name)
-    names name = ap (λ z. among z name) (flat_map-append top_name before (decl ∷ [])) ∙ list_any-append (same name) (top_names before) (top_name decl ++ [])
-
-    left : (a b c : Bool) → c ≡ (a || b) → a ≡ true → c ≡ true
-    left true b c e h = e
-    left false b c e h = cc
-
-    right : (a b c : Bool) → c ≡ (a || b) → b ≡ true → c ≡ true
-    right true b c e h = e
-    right false b c e h = e ∙ h
-
-    known : (name : Name) → among (top_names before) name ≡ true → among (symbols_of decls) name ≡ false
-    known name h = rest.fresh name (left (among (top_names before) name) (among (top_name decl ++ []) name) (among (top_names (before ++ decl ∷ [])) name) (names name) h)
-
-    other : symbol_name decl ≡ [] → Behind before (decl ∷ decls)
-    other none = record {
-      apart = subst (λ z. AreApart (z ++ symbols_of decls)) (sym none) rest.apart;
-      fresh = λ name h. ap (λ z. among (z ++ symbols_of decls) name) none ∙ known name h;
-    }
-
-    symbol : (own : Name) → decl ≡ PlainDecl.Symbol own → Behind before (decl ∷ decls)
-    symbol own e =
-        let here : among (top_name decl ++ []) own ≡ true = ap (λ d. among (top_name d ++ []) own) e ∙ ap (λ b. b || false) (same_if own own refl) in
-        let is_new : among (top_names before) own ≡ false = (names_new true (top_names before) (own ∷ []) (subst (λ d. first_broken true (asks_names (top_names before) (top_name d)) ≡ None) e new) 0 own refl).0 in
-        let named : symbol_name decl ≡ own ∷ [] = ap symbol_name e in record {
-          apart = subst (λ z. AreApart (z ++ symbols_of decls)) (sym named) (rest.fresh own (right (among (top_names before) own) (among (top_name decl ++ []) own) (among (top_names (before ++ decl ∷ [])) own) (names own) here), rest.apart);
-          fresh = λ name h. ap (λ z. among (z ++ symbols_of decls) name) named ∙ neither name h (same name own) refl is_new;
-        }
-      where
-        neither : (name : Name) → among (top_names before) name ≡ true → (b : Bool) → same name own ≡ b → among (top_names before) own ≡ false → (same name own || among (symbols_of decls) name) ≡ false
-        neither name h true e new = absurd (true≢false (sym h ∙ ap (among (top_names before)) (same_told name own e) ∙ new))
-        neither name h false e new = ap (λ z. z || among (symbols_of decls) name) e ∙ known name h
-
-    by : (d : PlainDecl) → decl ≡ d → Behind before (decl ∷ decls)
-    by (PlainDecl.Symbol own) e = symbol own e
-    by rest e = other (ap symbol_name e)
-
-behind : (number : ℕ) (before decls : List PlainDecl) → first_of (broken_rule true) number before decls ≡ None → Behind before decls
-unfolding broken_rule
-behind number before [] h = record { apart = tt; fresh = λ name h. refl }
-behind number before (decl ∷ decls) h =
-    let both = none_both (option_map (λ x. let p : Rule × ℕ = (x, number) in p) (broken_rule true before decl)) (first_of (broken_rule true) (number + 1) (before ++ decl ∷ []) decls) h in
-    let own : first_broken true (asks_names (top_names before) (top_name decl) ++ (First (is_first before decl) ∷ asks_decl before decl)) ≡ None = unmapped (broken_rule true before decl) number both.0 in
-    one_more before decls decl (parts true (asks_names (top_names before) (top_name decl)) (First (is_first before decl) ∷ asks_decl before decl) own).0 (behind (number + 1) (before ++ decl ∷ []) decls both.1)
 
 -- a width at the place of a name, where the names are apart: there and nowhere else
 at_place : (name : Name) (width k place : ℕ) (symbols : List Name) → AreApart symbols → place < length symbols
