@@ -10,6 +10,11 @@ abbrev pub IsRefusal : Refusal → Option Rule → Type 0
 IsRefusal (Broken rule) broken = broken ≡ Some rule
 IsRefusal Memory broken = Unit {0}
 
+-- a refusal that isn't for want of memory
+abbrev pub NamesRule : Refusal → Type 0
+NamesRule (Broken rule) = Unit {0}
+NamesRule Memory = ⊥
+
 -- nothing is broken where the answer is no refusal
 abbrev pub PassesOn : {A T : Type 0} → Option A → Result T Refusal → Type 0
 PassesOn broken result = OnOk result (broken ≡ None)

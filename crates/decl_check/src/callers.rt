@@ -3,19 +3,22 @@
 ghost use Rattle.std.specs.Prelude.{◌≡◌, ◌<◌, length, OnOk, IfOk};
 ghost use Rattle.decl_check.specs.CallerSizes.{with_size, HasCall, HasCallers, HasCallersIn, AreAllCallers, AreEmpty};
 
-use crate::refusal::Refusal;
 use elastic_ast::Stmt;
 use elx_bits::{Items, Name};
 use program_names::NamePlaces;
-use std::alloc::Global;
+use std::alloc::{AllocError, Global};
 
 /// Adds a size at a place.
-fn push_at<'a>(sizes: &mut [Items<&'a Name>], place: usize, size: &'a Name) -> Result<(), Refusal>
+fn push_at<'a>(
+    sizes: &mut [Items<&'a Name>],
+    place: usize,
+    size: &'a Name,
+) -> Result<(), AllocError>
     requires { place < length sizes.old }
     ensures { OnOk result (sizes.new ≡ with_size sizes.old place size.entry) }
 {
     if sizes[place].push(size).is_err() {
-        return Err(Refusal::Memory);
+        return Err(AllocError);
     }
     Ok(())
 }
@@ -26,7 +29,7 @@ fn add_call<'a>(
     around: Option<&'a Name>,
     called: &Name,
     sizes: &mut [Items<&'a Name>],
-) -> Result<(), Refusal>
+) -> Result<(), AllocError>
     requires { length sizes.old ≡ length names.now }
     ensures { OnOk result (HasCall names.now around.entry called.now sizes.old sizes.new) }
 {
@@ -47,7 +50,7 @@ fn add_callers<'a>(
     around: Option<&'a Name>,
     stmt: &'a Stmt,
     sizes: &mut [Items<&'a Name>],
-) -> Result<(), Refusal>
+) -> Result<(), AllocError>
     requires { length sizes.old ≡ length names.now }
     ensures { OnOk result (HasCallers names.now around.entry stmt.now sizes.old sizes.new) }
 {
@@ -76,7 +79,7 @@ fn add_callers_in<'a>(
     around: Option<&'a Name>,
     stmts: &'a [Stmt],
     sizes: &mut [Items<&'a Name>],
-) -> Result<(), Refusal>
+) -> Result<(), AllocError>
     requires { length sizes.old ≡ length names.now }
     ensures { OnOk result (HasCallersIn names.now around.entry stmts.now sizes.old sizes.new) }
 {
@@ -87,13 +90,13 @@ fn add_callers_in<'a>(
 }
 
 /// So many empty lists.
-fn empty_lists<'a>(alloc: Global, count: usize) -> Result<Vec<Items<&'a Name>>, Refusal>
+fn empty_lists<'a>(alloc: Global, count: usize) -> Result<Vec<Items<&'a Name>>, AllocError>
     ensures { IfOk result (λ sizes. AreEmpty count sizes.items) }
 {
     let mut lists = Vec::new(alloc);
     for _ in 0..count {
         if lists.push(Items::new(alloc)).is_err() {
-            return Err(Refusal::Memory);
+            return Err(AllocError);
         }
     }
     Ok(lists)
@@ -105,7 +108,7 @@ pub fn callers<'a>(
     names: &NamePlaces,
     count: usize,
     body: &'a [Stmt],
-) -> Result<Vec<Items<&'a Name>>, Refusal>
+) -> Result<Vec<Items<&'a Name>>, AllocError>
     requires { count ≡ length names.now }
     ensures { IfOk result (λ sizes. AreAllCallers names.now body.now sizes.items) }
 {

@@ -1,7 +1,7 @@
 //! Why a declaration is refused, and the names of one scope.
 
-ghost use Rattle.std.specs.Prelude.{◌≡◌, [], ◌∷◌, ◌++◌, OnErr, OnOk, None};
-ghost use Rattle.decl_check.specs.Refusals.{RefusedBy, IsTableOf, PassesOn};
+ghost use Rattle.std.specs.Prelude.{◌≡◌, [], ◌∷◌, ◌++◌, IfErr, OnErr, OnOk, None};
+ghost use Rattle.decl_check.specs.Refusals.{NamesRule, RefusedBy, IsTableOf, PassesOn};
 ghost use Rattle.elastic_ast.specs.Typing.Scope.{among};
 ghost use Rattle.decl_check.specs.FirstRules.{one_breaks};
 ghost use Rattle.decl_check.specs.NamedParts.{behind};
@@ -64,6 +64,7 @@ pub fn put_behind(
 pub fn refusal_of(broken: Option<Rule>) -> Result<(), Refusal>
     ensures fine { OnOk result (broken ≡ None) }
     ensures refused { RefusedBy broken result }
+    ensures named { IfErr result NamesRule }
 {
     match broken {
         Some(rule) => Err(Refusal::Broken(rule)),
@@ -76,6 +77,7 @@ pub fn with_parts(parts: NamePlaces, broken: Option<Rule>) -> Result<NamePlaces,
     ensures parts { IsTableOf parts result }
     ensures fine { PassesOn broken result }
     ensures refused { RefusedBy broken result }
+    ensures named { IfErr result NamesRule }
 {
     match broken {
         Some(rule) => Err(Refusal::Broken(rule)),

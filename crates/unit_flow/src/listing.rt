@@ -3,9 +3,9 @@
 ghost use Rattle.std.specs.Prelude.{◌≡◌, IfOk, IfErr, map};
 ghost use Rattle.elastic_ast.specs.Units.SeenUnits.{seen_unit};
 ghost use Rattle.unit_parts.specs.SeenPieces.{seen_piece};
-ghost use Rattle.unit_parts.specs.UnitAt.{unit_at};
-ghost use Rattle.unit_flow.specs.Knowing.{Knows, known_decls};
-ghost use Rattle.unit_flow.specs.TooLarge.{AreFitting, IsFirstTooLarge, units_at};
+ghost use Rattle.unit_flow.specs.Knowing.{Knows, known_decls, known_units};
+ghost use Rattle.unit_flow.specs.PieceUnit.{IsUnitAt};
+ghost use Rattle.unit_flow.specs.TooLarge.{AreFitting, IsFirstTooLarge};
 
 use crate::limit::{UnitError, push_unit};
 use crate::naming::{Known, found_for};
@@ -18,7 +18,7 @@ use unit_parts::{Piece, unit_of};
 /// The unit of a piece.
 fn piece_unit<'a>(alloc: Global, known: &Known<'a>, piece: &Piece<'a>) -> Result<Unit, AllocError>
     requires { Knows known.now }
-    ensures { IfOk result (λ unit. seen_unit unit ≡ unit_at (known_decls known.now) (seen_piece piece.now)) }
+    ensures { IfOk result (IsUnitAt (known_decls known.now) (seen_piece piece.now)) }
 {
     let needs = needs(alloc, &known.scope, &known.summaries, piece)?;
     let found = found_for(known, piece, &needs)?;
@@ -34,9 +34,9 @@ pub fn list_units<'a>(
     most: u32,
 ) -> Result<Items<Unit>, UnitError>
     requires { Knows known.now }
-    ensures listed { IfOk result (λ list. map seen_unit list ≡ units_at (known_decls known.now) pieces.now) }
+    ensures listed { IfOk result (λ list. map seen_unit list ≡ known_units known.now pieces.now) }
     ensures fits { IfOk result (λ list. AreFitting most (map seen_unit list)) }
-    ensures refused { IfErr result (IsFirstTooLarge (units_at (known_decls known.now) pieces.now) most) }
+    ensures refused { IfErr result (IsFirstTooLarge (known_units known.now pieces.now) most) }
 {
     let mut list = Items::new(alloc);
     for piece in pieces {
