@@ -152,22 +152,21 @@ def write(make, count, path):
         sys.exit(f"{path}: not written")
 
 
-def run(source, output):
-    """Runs the program on a source: its seconds, its greatest memory in megabytes, its status, and what it printed."""
+def run(words, output):
+    """Runs a program by its words: its seconds, its usage of the processor and of memory, and its status."""
     begun = time.monotonic()
     child = os.fork()
     if child == 0:
         os.dup2(output.fileno(), 1)
         resource.setrlimit(resource.RLIMIT_CPU, (SECONDS_ALLOWED, SECONDS_ALLOWED))
         try:
-            os.execv(PROGRAM, [PROGRAM, "size", source, TARGET])
+            os.execv(words[0], words)
         except OSError:
             os._exit(127)
     _, ended, usage = os.wait4(child, 0)
     seconds = time.monotonic() - begun
     output.seek(0)
-    said = output.read(200).decode("utf-8", "replace").strip().replace("\n", " / ")
-    return seconds, usage.ru_maxrss / 1024, os.waitstatus_to_exitcode(ended), said
+    return seconds, usage, os.waitstatus_to_exitcode(ended)
 
 
 def measure(name, make, count, folder):
@@ -180,7 +179,9 @@ def measure(name, make, count, folder):
         if size > MOST_BYTES:
             sys.exit(f"{name}: {size} bytes, which is more than a source may have")
         with tempfile.TemporaryFile() as output:
-            seconds, memory, status, said = run(source, output)
+            seconds, usage, status = run([PROGRAM, "size", source, TARGET], output)
+            said = output.read(200).decode("utf-8", "replace").strip().replace("\n", " / ")
+        memory = usage.ru_maxrss / 1024
         times = "" if before is None else f"{seconds / before:6.2f}"
         print(
             f"{name:11} {count * factor:7} {size:9} {seconds:9.2f} {memory:8.0f} {times:>6}  {said} (status {status})",

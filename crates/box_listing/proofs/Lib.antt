@@ -1,2 +1,3 @@
+pub mod NoUnitLaws
 pub mod ListingLaws
 pub mod ChoiceLaws

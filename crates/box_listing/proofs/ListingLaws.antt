@@ -5,10 +5,9 @@ use Rattle.std.specs.Int.Signed.{lt_z_yes, lt_z_no}
 use Rattle.std.proofs.Math.Nat.{mul_assoc, mul-le-mul_left}
 use Rattle.std.proofs.lemmas.Nat.{div-mul-add, mod-mul-add, mul-add-lt}
 use Rattle.std.proofs.lemmas.Int.{ints}
-use Rattle.elastic_ast.specs.declared.flat.Terms.{Terms}
+use Rattle.elastic_ast.specs.declared.flat.Units.{Units}
 use Rattle.size_terms.specs.Rows.{worth}
 use Rattle.box_listing.specs.Listing.{IsWithin, points_in, most_points, point_at, IsOpen, IsWorth, IsBestAt, IsBestOf, better}
-use Rattle.unroll_bound.specs.declared.header.HeaderUse.{HeaderUse}
 
 pub length_point : (number : ℕ) (bounds : List ℕ) → length (point_at number bounds) ≡ length bounds
 length_point number [] = refl
@@ -58,32 +57,32 @@ at_last : {P : ℕ → Type 0} (k : ℕ) → ((n : ℕ) → n < k → P n) → P
 at_last {P} k below here n h = elim (below_or_at n k h) [ inl b ↦ below n b | inr e ↦ subst P (sym e) here ]
 
 -- the best of the first points, after one more
-pub best_step : (terms : Terms) (bits : HeaderUse) (limit : ℕ) (bounds : List ℕ) (k : ℕ) (best : Option (ℕ × ℤ)) (sizes : List ℕ) (found : Option ℤ) → sizes ≡ point_at k bounds → IsBestOf terms bits limit bounds k best → IsWorth terms bits limit sizes found
-    → IsBestOf terms bits limit bounds (k + 1) (better best k found)
-best_step terms bits limit bounds k best sizes found point inv here = by best found inv (let P : List ℕ → Type 0 = λ z. IsWorth terms bits limit z found in subst P point here)
+pub best_step : (units : Units) (limit : ℕ) (bounds : List ℕ) (k : ℕ) (best : Option (ℕ × ℤ)) (sizes : List ℕ) (found : Option ℤ) → sizes ≡ point_at k bounds → IsBestOf units limit bounds k best → IsWorth units limit sizes found
+    → IsBestOf units limit bounds (k + 1) (better best k found)
+best_step units limit bounds k best sizes found point inv here = by best found inv (let P : List ℕ → Type 0 = λ z. IsWorth units limit z found in subst P point here)
   where
-    by : (best : Option (ℕ × ℤ)) (found : Option ℤ) → IsBestOf terms bits limit bounds k best → IsWorth terms bits limit (point_at k bounds) found → IsBestOf terms bits limit bounds (k + 1) (better best k found)
+    by : (best : Option (ℕ × ℤ)) (found : Option ℤ) → IsBestOf units limit bounds k best → IsWorth units limit (point_at k bounds) found → IsBestOf units limit bounds (k + 1) (better best k found)
     by None None inv here =
-        let P : ℕ → Type 0 = λ n. IsOpen terms bits limit (point_at n bounds) → ⊥ in
+        let P : ℕ → Type 0 = λ n. IsOpen units limit (point_at n bounds) → ⊥ in
         at_last {P = P} k inv here
     by (Some b) None inv here =
-        let P : ℕ → Type 0 = λ n. IsOpen terms bits limit (point_at n bounds) → worth terms (point_at n bounds) ≤ℤ b.1 in
+        let P : ℕ → Type 0 = λ n. IsOpen units limit (point_at n bounds) → worth units.terms (point_at n bounds) ≤ℤ b.1 in
         record { within = let w = inv.within in omega (arith, w); point = inv.point; best = at_last {P = P} k inv.best (λ good. absurd (here good)) }
     by None (Some u) inv here =
-        let P : ℕ → Type 0 = λ n. IsOpen terms bits limit (point_at n bounds) → worth terms (point_at n bounds) ≤ℤ u in
+        let P : ℕ → Type 0 = λ n. IsOpen units limit (point_at n bounds) → worth units.terms (point_at n bounds) ≤ℤ u in
         record { within = omega arith; point = here; best = at_last {P = P} k (λ n h good. absurd (inv n h good)) (λ good. let e = here.1 in omega (arith, ints, e)) }
     by (Some b) (Some u) inv here = chosen (int_lt b.1 u) refl
       where
-        taken : b.1 <ℤ u → IsBestAt terms bits limit bounds (k + 1) k u
+        taken : b.1 <ℤ u → IsBestAt units limit bounds (k + 1) k u
         taken more =
-            let P : ℕ → Type 0 = λ n. IsOpen terms bits limit (point_at n bounds) → worth terms (point_at n bounds) ≤ℤ u in
+            let P : ℕ → Type 0 = λ n. IsOpen units limit (point_at n bounds) → worth units.terms (point_at n bounds) ≤ℤ u in
             record { within = omega arith; point = here; best = at_last {P = P} k (λ n h good. let q = inv.best n h good in omega (arith, ints, q, more)) (λ good. let e = here.1 in omega (arith, ints, e)) }
 
-        kept : u ≤ℤ b.1 → IsBestAt terms bits limit bounds (k + 1) b.0 b.1
+        kept : u ≤ℤ b.1 → IsBestAt units limit bounds (k + 1) b.0 b.1
         kept less =
-            let P : ℕ → Type 0 = λ n. IsOpen terms bits limit (point_at n bounds) → worth terms (point_at n bounds) ≤ℤ b.1 in
+            let P : ℕ → Type 0 = λ n. IsOpen units limit (point_at n bounds) → worth units.terms (point_at n bounds) ≤ℤ b.1 in
             record { within = let w = inv.within in omega (arith, w); point = inv.point; best = at_last {P = P} k inv.best (λ good. let e = here.1 in omega (arith, ints, e, less)) }
 
-        chosen : (t : Bool) → int_lt b.1 u ≡ t → IsBestOf terms bits limit bounds (k + 1) (if t then Some (k, u) else Some b)
+        chosen : (t : Bool) → int_lt b.1 u ≡ t → IsBestOf units limit bounds (k + 1) (if t then Some (k, u) else Some b)
         chosen true e = taken (lt_z_yes (subst T (sym e) tt))
         chosen false e = kept (lt_z_no (subst T (sym (ap not e)) tt))

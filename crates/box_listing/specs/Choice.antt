@@ -1,9 +1,12 @@
 -- What becomes of a program on a target: its best sizes, or why it has none that are looked for; this project's own.
 use Rattle.std.specs.Prelude.{◌≡◌, ◌⊎◌, ℕ, ◌<◌, ◌≤◌, true, false, List, []}
 use Rattle.elastic_ast.specs.declared.flat.Terms.{Terms}
+use Rattle.elastic_ast.specs.declared.flat.Units.{Units}
 use Rattle.elastic_ast.specs.Tree.{PlainDecl}
 use Rattle.elastic_ast.specs.Typing.Asked.{DeclKind, has}
 use Rattle.elastic_ast.specs.Sizes.SizeSums.{symbols_of, utility}
+use Rattle.elastic_ast.specs.Units.SeenUnits.{seen_units}
+use Rattle.elastic_ast.specs.Units.UnitsOf.{UnitsOf}
 use Rattle.size_terms.specs.Rows.{worth, AreShort}
 use Rattle.size_terms.specs.Coefficients.{rows_of}
 use Rattle.size_terms.specs.TermsMean.{SayAssumes}
@@ -15,12 +18,17 @@ use Rattle.box_listing.specs.declared.choosing.Choice.{Choice}
 use Rattle.box_listing.specs.declared.choosing.Choice.TheVariants as choice
 
 -- the terms say what the declarations do
-pub record AreTermsOf (decls : List PlainDecl) (terms : Terms) : Type 0 where
+pub record TermsSay (decls : List PlainDecl) (terms : Terms) : Type 0 where
   pub symbols : terms.symbols ≡ symbols_of decls
   pub rows : terms.rows ≡ rows_of decls
   pub assumes : SayAssumes decls terms
   pub worth_is : (sizes : List ℕ) → worth terms sizes ≡ utility decls sizes
   pub short : AreShort terms
+
+-- these are the units of the program, with its terms
+pub record AreUnitsFor (decls : List PlainDecl) (units : Units) : Type 0 where
+  pub units_are : UnitsOf decls (seen_units units)
+  pub terms_are : TermsSay decls units.terms
 
 -- the box of these bounds has few enough points to be listed
 abbrev pub IsListable : List ℕ → Type 0

@@ -1,9 +1,8 @@
 -- The points of a box of sizes by their numbers, and the best of them; this project's own.
 use Rattle.std.specs.Prelude.{◌≡◌, ℕ, ◌+◌, ◌*◌, ◌/◌, ◌%◌, ◌<◌, ◌≤◌, List, [], ◌∷◌, Option, Some, None, ℤ, ◌≤ℤ◌, int_lt, if◌then◌else◌}
-use Rattle.elastic_ast.specs.declared.flat.Terms.{Terms}
+use Rattle.elastic_ast.specs.declared.flat.Units.{Units}
 use Rattle.size_terms.specs.Rows.{TermsHold, worth}
-use Rattle.unroll_bound.specs.HeaderUse.{bits_taken}
-use Rattle.unroll_bound.specs.declared.header.HeaderUse.{HeaderUse}
+use Rattle.dep_graph.specs.HeaderBits.{weighed}
 
 -- each size is at most its bound
 abbrev pub IsWithin : List ℕ → List ℕ → Type 0
@@ -26,26 +25,30 @@ abbrev pub point_at : ℕ → List ℕ → List ℕ
 point_at number [] = []
 point_at number (bound ∷ bounds) = (number % (bound + 1)) ∷ point_at (number / (bound + 1)) bounds
 
--- the terms hold at these sizes, and the program is within the header bits
-pub record IsOpen (terms : Terms) (bits : HeaderUse) (limit : ℕ) (sizes : List ℕ) : Type 0 where
-  pub holds : TermsHold terms sizes
-  pub header : bits_taken bits sizes ≤ limit
+-- the header bits that are taken at these sizes
+abbrev pub bits_taken : Units → List ℕ → ℕ
+bits_taken units sizes = units.fixed_bits + weighed units.symbol_bits sizes
+
+-- the terms hold at these sizes, and the header bits are within a limit
+pub record IsOpen (units : Units) (limit : ℕ) (sizes : List ℕ) : Type 0 where
+  pub holds : TermsHold units.terms sizes
+  pub header : bits_taken units sizes ≤ limit
 
 -- a point is worth a number if it is open, and nothing else
-abbrev pub IsWorth : Terms → HeaderUse → ℕ → List ℕ → Option ℤ → Type 0
-IsWorth terms bits limit sizes None = IsOpen terms bits limit sizes → ⊥
-IsWorth terms bits limit sizes (Some utility) = IsOpen terms bits limit sizes × (utility ≡ worth terms sizes)
+abbrev pub IsWorth : Units → ℕ → List ℕ → Option ℤ → Type 0
+IsWorth units limit sizes None = IsOpen units limit sizes → ⊥
+IsWorth units limit sizes (Some utility) = IsOpen units limit sizes × (utility ≡ worth units.terms sizes)
 
 -- no other of the first points is open and worth more
-pub record IsBestAt (terms : Terms) (bits : HeaderUse) (limit : ℕ) (bounds : List ℕ) (count : ℕ) (number : ℕ) (utility : ℤ) : Type 0 where
+pub record IsBestAt (units : Units) (limit : ℕ) (bounds : List ℕ) (count : ℕ) (number : ℕ) (utility : ℤ) : Type 0 where
   pub within : number < count
-  pub point : IsWorth terms bits limit (point_at number bounds) (Some utility)
-  pub best : (other : ℕ) → other < count → IsOpen terms bits limit (point_at other bounds) → worth terms (point_at other bounds) ≤ℤ utility
+  pub point : IsWorth units limit (point_at number bounds) (Some utility)
+  pub best : (other : ℕ) → other < count → IsOpen units limit (point_at other bounds) → worth units.terms (point_at other bounds) ≤ℤ utility
 
 -- the best of the first points, if one of them is open
-abbrev pub IsBestOf : Terms → HeaderUse → ℕ → List ℕ → ℕ → Option (ℕ × ℤ) → Type 0
-IsBestOf terms bits limit bounds count None = (number : ℕ) → number < count → IsOpen terms bits limit (point_at number bounds) → ⊥
-IsBestOf terms bits limit bounds count (Some found) = IsBestAt terms bits limit bounds count found.0 found.1
+abbrev pub IsBestOf : Units → ℕ → List ℕ → ℕ → Option (ℕ × ℤ) → Type 0
+IsBestOf units limit bounds count None = (number : ℕ) → number < count → IsOpen units limit (point_at number bounds) → ⊥
+IsBestOf units limit bounds count (Some found) = IsBestAt units limit bounds count found.0 found.1
 
 -- the best point so far, after one more
 abbrev pub better : Option (ℕ × ℤ) → ℕ → Option ℤ → Option (ℕ × ℤ)

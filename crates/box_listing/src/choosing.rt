@@ -4,15 +4,15 @@ ghost use Rattle.std.specs.Prelude.{◌≡◌, ◌≤◌, ◌<◌, ◌-◌, ◌^
 ghost use Rattle.elastic_ast.specs.Seen.{seen_decls};
 ghost use Rattle.elastic_ast.specs.Typing.Asked.{DeclKind, has};
 ghost use Rattle.size_terms.specs.Rows.{AreShort};
-ghost use Rattle.target_desc.specs.InRange.{IsInRange};
-ghost use Rattle.box_listing.specs.Choice.{AreTermsOf, IsChoice};
+ghost use Rattle.box_listing.specs.Choice.{AreUnitsFor, IsChoice};
+ghost use Rattle.box_listing.specs.NoUnits.{NoMainNoUnits};
 ghost use Rattle.box_listing.specs.Picking.{IsPicked};
 
 use crate::listing::{best_of, count_points, point, zero_sizes};
-use elastic_ast::{Decl, Sizes, Terms};
+use elastic_ast::{Decl, Sizes, Units};
 use std::alloc::{AllocError, Global};
 use target_desc::Target;
-use unroll_bound::{Bounds, HeaderUse, bounds_of, header_use};
+use unroll_bound::{Bounds, bounds_of};
 use width_check::{Checked, program};
 
 /// What becomes of a program on a target.
@@ -31,20 +31,19 @@ pub enum Choice {
 /// The best point of a box.
 fn best_within(
     alloc: Global,
-    terms: &Terms,
-    bits: &HeaderUse,
+    units: &Units,
     limit: u64,
     bounds: &[u64],
 ) -> Result<Choice, AllocError>
-    requires dense { length bounds.now ≡ length terms.now.symbols }
-    requires sized { length bits.now.symbol_bits.items ≡ length terms.now.symbols }
-    requires short { AreShort terms.now }
-    ensures { IfOk result (λ choice. IsPicked terms.now bits.now limit bounds.now choice) }
+    requires dense { length bounds.now ≡ length units.now.terms.symbols }
+    requires sized { length units.now.symbol_bits ≡ length units.now.terms.symbols }
+    requires short { AreShort units.now.terms }
+    ensures { IfOk result (λ choice. IsPicked units.now limit bounds.now choice) }
 {
     let Some(count) = count_points(bounds) else {
         return Ok(Choice::NotYet);
     };
-    match best_of(alloc, terms, bits, limit, bounds, count)? {
+    match best_of(alloc, units, limit, bounds, count)? {
         None => Ok(Choice::Infeasible),
         Some((number, utility)) => {
             let sizes = zero_sizes(alloc, bounds.len())?;
@@ -53,6 +52,11 @@ fn best_within(
         }
     }
 }
+
+/// A program without `main` has no units. It holds of the definitions, and takes no step.
+pub fn no_units_without_main()
+    ensures { NoMainNoUnits }
+{}
 
 /// Whether a program declares `main`.
 fn declares_main(checked: &Checked) -> bool
@@ -70,24 +74,22 @@ fn declares_main(checked: &Checked) -> bool
 /// the rows and the header bits give, beyond which nothing is feasible. Those of a program that declares `main` aren't looked
 /// for yet.
 ///
-/// `terms` are those that `size_terms::terms` gives of the program. The one error is want of memory.
+/// `units` are those that `unit_flow::units` gives of the program. The one error is want of memory.
 pub fn choose(
     alloc: Global,
     checked: &Checked,
-    terms: &Terms,
+    units: &Units,
     target: &Target,
 ) -> Result<Choice, AllocError>
-    requires terms { AreTermsOf (seen_decls checked.now) terms.now }
-    requires in_range { IsInRange target.now }
+    requires { AreUnitsFor (seen_decls checked.now) units.now }
     ensures { IfOk result (IsChoice (seen_decls checked.now) target.now) }
 {
     if declares_main(checked) {
         return Ok(Choice::NotYet);
     }
     let limit = target.header_bits;
-    let bits = header_use(alloc, checked, terms.symbols.as_slice())?;
-    match bounds_of(alloc, terms, &bits, limit)? {
-        Bounds::All(bounds) => best_within(alloc, terms, &bits, limit, bounds.as_slice()),
+    match bounds_of(alloc, units, limit)? {
+        Bounds::All(bounds) => best_within(alloc, units, limit, bounds.as_slice()),
         Bounds::Missing { symbol } => Ok(Choice::Unbounded { symbol }),
     }
 }

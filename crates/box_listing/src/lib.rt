@@ -5,5 +5,5 @@
 mod choosing;
 mod listing;
 
-pub use choosing::{Choice, choose};
+pub use choosing::{Choice, choose, no_units_without_main};
 pub use listing::points_have_numbers;

@@ -2,14 +2,13 @@
 
 ghost use Rattle.std.specs.Prelude.{◌≡◌, ℕ, ◌≤◌, ◌<◌, ◌-◌, ◌^◌, ◌↔◌, List, IsTrue, length, SomeIff, IfOk};
 ghost use Rattle.size_terms.specs.Rows.{AreShort};
-ghost use Rattle.box_listing.specs.Listing.{points_in, most_points, point_at, IsWithin, IsOpen, IsWorth, IsBestOf, better as better_of};
+ghost use Rattle.box_listing.specs.Listing.{points_in, most_points, point_at, bits_taken, IsWithin, IsOpen, IsWorth, IsBestOf, better as better_of};
 ghost use Rattle.box_listing.specs.Numbering.{PointsHaveNumbers};
 
-use elastic_ast::{Sizes, Terms};
+use elastic_ast::{Sizes, Units};
 use elx_bits::Items;
 use size_terms::{holds, utility};
 use std::alloc::{AllocError, Global};
-use unroll_bound::{HeaderUse, fits};
 
 /// The most points that are listed.
 const MOST_POINTS: u128 = 1_000_000;
@@ -61,14 +60,32 @@ pub fn point(number: u64, bounds: &[u64], sizes: Sizes) -> Sizes
     }
 }
 
-/// The utility at these sizes, where the rows hold and the metadata is within a limit.
-fn worth_of(terms: &Terms, bits: &HeaderUse, limit: u64, sizes: &Sizes) -> Option<i128>
-    requires dense { length sizes.now.values ≡ length terms.now.symbols }
-    requires sized { length bits.now.symbol_bits.items ≡ length terms.now.symbols }
-    requires short { AreShort terms.now }
-    ensures { IsWorth terms.now bits.now limit sizes.now.values result }
+/// Whether the header bits that are taken at these sizes are at most a number.
+fn fits(units: &Units, sizes: &[u64], limit: u64) -> bool
+    requires { length sizes.now ≡ length units.now.symbol_bits }
+    ensures { IsTrue result ↔ (bits_taken units.now sizes.now ≤ limit) }
 {
-    if holds(terms, sizes) && fits(bits, sizes.values.as_slice(), limit) {
+    let limit = u128::from(limit);
+    let mut sum = u128::from(units.fixed_bits);
+    let each = units.symbol_bits.as_slice();
+    for i in 0..sizes.len() {
+        if sum > limit {
+            return false;
+        }
+        sum += u128::from(each[i]) * u128::from(sizes[i]);
+    }
+    sum <= limit
+}
+
+/// The utility at these sizes, where the terms hold and the header bits are within a limit.
+fn worth_of(units: &Units, limit: u64, sizes: &Sizes) -> Option<i128>
+    requires dense { length sizes.now.values ≡ length units.now.terms.symbols }
+    requires sized { length units.now.symbol_bits ≡ length units.now.terms.symbols }
+    requires short { AreShort units.now.terms }
+    ensures { IsWorth units.now limit sizes.now.values result }
+{
+    let terms = &units.terms;
+    if holds(terms, sizes) && fits(units, sizes.values.as_slice(), limit) {
         Some(utility(terms, sizes))
     } else {
         None
@@ -92,27 +109,26 @@ fn better(best: Option<(u64, i128)>, number: u64, worth: Option<i128>) -> Option
     }
 }
 
-/// The number and the utility of the best of the first points, if one of them is within the limit and meets the rows. Of
+/// The number and the utility of the best of the first points, if one of them meets the terms and is within the limit. Of
 /// two equally good ones it is the one of the lesser number.
 pub fn best_of(
     alloc: Global,
-    terms: &Terms,
-    bits: &HeaderUse,
+    units: &Units,
     limit: u64,
     bounds: &[u64],
     count: u64,
 ) -> Result<Option<(u64, i128)>, AllocError>
-    requires dense { length bounds.now ≡ length terms.now.symbols }
-    requires sized { length bits.now.symbol_bits.items ≡ length terms.now.symbols }
-    requires short { AreShort terms.now }
+    requires dense { length bounds.now ≡ length units.now.terms.symbols }
+    requires sized { length units.now.symbol_bits ≡ length units.now.terms.symbols }
+    requires short { AreShort units.now.terms }
     requires small { count ≤ most_points }
-    ensures { IfOk result (λ best. IsBestOf terms.now bits.now limit bounds.now count best) }
+    ensures { IfOk result (λ best. IsBestOf units.now limit bounds.now count best) }
 {
     let mut sizes = zero_sizes(alloc, bounds.len())?;
     let mut best = None;
     for number in 0..count {
         sizes = point(number, bounds, sizes);
-        let worth = worth_of(terms, bits, limit, &sizes);
+        let worth = worth_of(units, limit, &sizes);
         best = better(best, number, worth);
     }
     Ok(best)

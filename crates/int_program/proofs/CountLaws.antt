@@ -115,7 +115,7 @@ split_uses ip b bs v k f c =
     }
 
 -- the ends that are left lie between the old ones
-shrunk_between : (a low high up down : ℤ) (ends : ℤ × ℤ) → low ≤ℤ high → shrunk a low high up down ≡ Some ends → (low ≤ℤ ends.0) × (ends.0 ≤ℤ ends.1) × (ends.1 ≤ℤ high)
+pub shrunk_between : (a low high up down : ℤ) (ends : ℤ × ℤ) → low ≤ℤ high → shrunk a low high up down ≡ Some ends → (low ≤ℤ ends.0) × (ends.0 ≤ℤ ends.1) × (ends.1 ≤ℤ high)
 shrunk_between a low high up down ends h = by (int_lt (pos 0) a) (int_lt a (pos 0))
   where
     by : (t s : Bool) → cond t (cond {A = Option (ℤ × ℤ)} (int_le low down && int_lt down high) (Some (low, down)) None) (cond {A = Option (ℤ × ℤ)} (s && (int_lt low up && int_le up high)) (Some (up, high)) None) ≡ Some ends → (low ≤ℤ ends.0) × (ends.0 ≤ℤ ends.1) × (ends.1 ≤ℤ high)
@@ -163,7 +163,7 @@ shrinks : (o : Option Row) (ip : Ip) (v : ℕ) (b : IpBox) → Fits ip b → Shr
 shrinks None ip v b f = record { fits = f; less = omega arith }
 shrinks (Some row) ip v b f = shrinks_by (tight_ends row v b) ip row v b f refl
 
-cut_uses : (ip : Ip) (b : IpBox) (bs : List IpBox) (node : Node) → Fits ip b → CutsOnly ip b node → Uses ip b bs node
+pub cut_uses : (ip : Ip) (b : IpBox) (bs : List IpBox) (node : Node) → Fits ip b → CutsOnly ip b node → Uses ip b bs node
 cut_uses ip b bs (Split v k) f c = split_uses ip b bs v k f c
 cut_uses ip b bs (Tight v r) f c =
     let s = shrinks (slice_get ip.rows r) ip v b f in
@@ -171,7 +171,7 @@ cut_uses ip b bs (Tight v r) f c =
 cut_uses ip b bs other f c = record { fit = tt; less = omega arith }
 
 -- an accepted split cuts
-accepted_cut : (ip : Ip) (b : IpBox) (v : ℕ) (k : ℤ) → Fits ip b → split_fault (length ip.tops) b v k ≡ None → IsCut b v k
+pub accepted_cut : (ip : Ip) (b : IpBox) (v : ℕ) (k : ℤ) → Fits ip b → split_fault (length ip.tops) b v k ≡ None → IsCut b v k
 accepted_cut ip b v k f e =
     let there = fault_after (nat_lt v (length ip.tops)) _ why.BadVar e in
     let t = and_parts (int_le (at b.low v) k) (int_lt k (at b.high v)) (test_from_none _ why.BadSplit there.1) in
@@ -190,7 +190,7 @@ accepted_cut ip b v k f e =
       };
     }
 
-accepted_uses : (ip : Ip) (known : Option ℤ) (b : IpBox) (bs : List IpBox) (node : Node) → Fits ip b → IsAccepted ip known b node → Uses ip b bs node
+pub accepted_uses : (ip : Ip) (known : Option ℤ) (b : IpBox) (bs : List IpBox) (node : Node) → Fits ip b → IsAccepted ip known b node → Uses ip b bs node
 accepted_uses ip known b bs (Split v k) f e = split_uses ip b bs v k f (accepted_cut ip b v k f e)
 accepted_uses ip known b bs (Tight v r) f e = cut_uses ip b bs (Tight v r) f e
 accepted_uses ip known b bs (RowLeaf r) f e = cut_uses ip b bs (RowLeaf r) f tt
@@ -199,7 +199,7 @@ accepted_uses ip known b bs (Dual over ws) f e = cut_uses ip b bs (Dual over ws)
 accepted_uses ip known b bs (Far ws) f e = cut_uses ip b bs (Far ws) f tt
 accepted_uses ip known b bs Unsolved f e = cut_uses ip b bs Unsolved f tt
 
-splits_at_most : (ip : Ip) (G : IpBox → Node → Type 0) → ((b : IpBox) (bs : List IpBox) (node : Node) → Fits ip b → G b node → Uses ip b bs node) → (bs : List IpBox) (nodes : List Node) → AllFit ip bs → Leads ip G bs nodes [] → split_count nodes ≤ splits_left bs
+pub splits_at_most : (ip : Ip) (G : IpBox → Node → Type 0) → ((b : IpBox) (bs : List IpBox) (node : Node) → Fits ip b → G b node → Uses ip b bs node) → (bs : List IpBox) (nodes : List Node) → AllFit ip bs → Leads ip G bs nodes [] → split_count nodes ≤ splits_left bs
 splits_at_most ip G uses bs [] f l = omega arith
 splits_at_most ip G uses [] (node ∷ nodes) f l = absurd l
 splits_at_most ip G uses (b ∷ bs) (node ∷ nodes) f l =
@@ -207,7 +207,7 @@ splits_at_most ip G uses (b ∷ bs) (node ∷ nodes) f l =
     let rest = splits_at_most ip G uses (children ip b node ++ bs) nodes (all_fit_append ip (children ip b node) bs u.fit f.1) l.1 in
     omega (arith, u.less, sum_by-cons (λ x. cond (is_split x) 1 0) node nodes)
 
-fewer : (ip : Ip) (G : IpBox → Node → Type 0) → ((b : IpBox) (bs : List IpBox) (node : Node) → Fits ip b → G b node → Uses ip b bs node) → (nodes : List Node) → IsNonempty (root_of ip) → Leads ip G (root_of ip ∷ []) nodes [] → split_count nodes < root_points ip
+pub fewer : (ip : Ip) (G : IpBox → Node → Type 0) → ((b : IpBox) (bs : List IpBox) (node : Node) → Fits ip b → G b node → Uses ip b bs node) → (nodes : List Node) → IsNonempty (root_of ip) → Leads ip G (root_of ip ∷ []) nodes [] → split_count nodes < root_points ip
 fewer ip G uses nodes n l =
     let most = splits_at_most ip G uses (root_of ip ∷ []) nodes (record { nonempty = n; count = length-map ip.tops (λ _. pos 0) }, tt) l in
     let some = points_positive (root_of ip).low (root_of ip).high in

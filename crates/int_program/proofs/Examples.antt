@@ -10,14 +10,14 @@ use Rattle.int_program.specs.declared.program.Weight.{Weight}
 use Rattle.int_program.specs.declared.program.Node.TheVariants.{Split, Tight, RowLeaf, GoalLeaf, Dual, Far, Unsolved}
 use Rattle.int_program.specs.declared.program.Why.TheVariants as why
 
-abbrev part : ℕ → ℤ → Part
+abbrev pub part : ℕ → ℤ → Part
 part v a = record { var = v; by = a }
 
 abbrev weight : ℕ → ℤ → Weight
 weight r w = record { row = r; by = w }
 
 -- two variables up to 5 and 3; the rows 2 x + 3 y <= 7, x - y <= -1 and -x <= -6; the objective 4 x + y + 10
-abbrev ip : Ip
+abbrev pub ip : Ip
 ip =
     record {
       tops = pos 5 ∷ pos 3 ∷ [];
@@ -27,7 +27,7 @@ ip =
     }
 
 -- x from 1 to 4, y from 0 to 3
-abbrev b : IpBox
+abbrev pub b : IpBox
 b = record { low = pos 1 ∷ pos 0 ∷ []; high = pos 4 ∷ pos 3 ∷ [] }
 
 abbrev low : IpBox

@@ -5,7 +5,7 @@ use Rattle.int_program.specs.Fair.{IsFairSplit, IsFair}
 use Rattle.int_program.specs.declared.program.Ip.{Ip}
 use Rattle.int_program.specs.declared.program.IpBox.{IpBox}
 use Rattle.int_program.specs.declared.program.Node.{Node}
-use Rattle.int_program.specs.declared.program.Node.TheVariants.{Split, Tight, RowLeaf, GoalLeaf, Dual, Far, Unsolved}
+use Rattle.int_program.specs.declared.program.Node.TheVariants.{Split}
 
 pub fair_cut : (owed : Bool) (above : ℕ) (ip : Ip) (b : IpBox) (v : ℕ) (k : ℤ) → length b.low ≡ length ip.tops → IsFairSplit owed above ip b v k → IsCut b v k
 fair_cut owed above ip b v k e f =

@@ -13,7 +13,7 @@ use Rattle.int_program.specs.declared.program.Weight.{Weight}
 use Rattle.int_program.specs.declared.program.Tree.{Tree}
 use Rattle.int_program.specs.declared.program.Why.TheVariants as why
 use Rattle.int_program.specs.declared.program.Node.{Node}
-use Rattle.int_program.specs.declared.program.Node.TheVariants.{Split, Tight, RowLeaf, GoalLeaf, Dual, Far, Unsolved}
+use Rattle.int_program.specs.declared.program.Node.TheVariants.{GoalLeaf, Dual}
 use Rattle.int_program.proofs.TreeLaws.{test_from_none, fault_after, dual_never}
 
 none_from_test : {W : Type 0} (t : Bool) (o : Option W) (w : W) → t ≡ true → o ≡ None → cond t o (Some w) ≡ None
@@ -39,12 +39,12 @@ dual_more ip b over ws u v h e =
     let short = short_more u v over o h signs.1 in
     none_from_test (rows_there ip ws) _ why.BadVar there.0 (none_from_test (int_le (pos 1) over && none_negative ws) (dual_short v over o) why.DualShort signs.0 short)
 
-accepted_more : (ip : Ip) (u v : ℤ) → u ≤ℤ v → (b : IpBox) (node : Node) → IsAccepted ip (Some u) b node → IsAccepted ip (Some v) b node
+pub accepted_more : (ip : Ip) (u v : ℤ) → u ≤ℤ v → (b : IpBox) (node : Node) → IsAccepted ip (Some u) b node → IsAccepted ip (Some v) b node
 accepted_more ip u v h b GoalLeaf e = goal_more ip b u v h e
 accepted_more ip u v h b (Dual over ws) e = dual_more ip b over ws u v h e
 accepted_more ip u v h b other e = e
 
-accepted_none : (ip : Ip) (u : ℤ) (b : IpBox) (node : Node) → IsAccepted ip None b node → IsAccepted ip (Some u) b node
+pub accepted_none : (ip : Ip) (u : ℤ) (b : IpBox) (node : Node) → IsAccepted ip None b node → IsAccepted ip (Some u) b node
 accepted_none ip u b GoalLeaf e = cc
 accepted_none ip u b (Dual over ws) e = absurd (dual_never (rows_there ip ws) e)
 accepted_none ip u b other e = e

@@ -13,4 +13,8 @@ pub mod CaseLaws
 pub mod CountLaws
 pub mod InsideLaws
 pub mod FairLaws
+pub mod FaultLaws
+pub mod ChildLaws
+pub mod PlaceLaws
 pub mod Examples
+pub mod FairExamples

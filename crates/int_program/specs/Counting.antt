@@ -5,7 +5,7 @@ use Rattle.int_program.specs.declared.program.Ip.{Ip}
 use Rattle.int_program.specs.declared.program.IpBox.{IpBox}
 use Rattle.int_program.specs.declared.program.Tree.{Tree}
 use Rattle.int_program.specs.declared.program.Node.{Node}
-use Rattle.int_program.specs.declared.program.Node.TheVariants.{Split, Tight}
+use Rattle.int_program.specs.declared.program.Node.TheVariants.{Split, Tight, Unsolved}
 use Rattle.int_program.specs.Boxes.{IsNonempty, root_of}
 use Rattle.int_program.specs.Accepts.{IsAccepted, lower_half, upper_half, Leads}
 
@@ -23,6 +23,13 @@ is_split node = false
 
 abbrev pub split_count : List Node → ℕ
 split_count nodes = count_by is_split nodes
+
+abbrev pub is_open : Node → Bool
+is_open Unsolved = true
+is_open node = false
+
+abbrev pub open_count : List Node → ℕ
+open_count nodes = count_by is_open nodes
 
 -- a split that cuts a nonempty box in a variable of it into two nonempty ones
 pub record IsCut (b : IpBox) (v : ℕ) (k : ℤ) : Type 0 where

@@ -15,15 +15,19 @@ NoRowLeaf ip b = (r : ℕ) → IsAccepted ip None b (RowLeaf r) → ⊥
 abbrev pub NoTightening : Ip → IpBox → Type 0
 NoTightening ip b = (v r : ℕ) → IsAccepted ip None b (Tight v r) → ⊥
 
+-- how many tightenings may stand directly above another node
+abbrev pub most_above : ℕ
+most_above = 100
+
 -- a fair split: of a nonempty box that no row leaf closes, in a variable of the program, into two nonempty boxes. Where
--- tightening is owed, no tightening is accepted on the box either, or 100 of them stand directly above the split
+-- tightening is owed, no tightening is accepted on the box either, or as many as may stand directly above the split
 pub record IsFairSplit (owed : Bool) (above : ℕ) (ip : Ip) (b : IpBox) (v : ℕ) (k : ℤ) : Type 0 where
   pub nonempty : IsNonempty b
   pub no_row : NoRowLeaf ip b
   pub var : v < length ip.tops
   pub lower : IsNonempty (lower_half b v k)
   pub upper : IsNonempty (upper_half b v k)
-  pub narrow : IsTrue owed → NoTightening ip b ⊎ (100 ≤ above)
+  pub narrow : IsTrue owed → NoTightening ip b ⊎ (most_above ≤ above)
 
 -- a fair open leaf for the known value or for none: no row leaf and no goal leaf is accepted on its box, and the point of all
 -- lows of the box is no better point

@@ -11,4 +11,6 @@ pub mod Accepts
 pub mod Cases
 pub mod Counting
 pub mod Fair
+pub mod Places
+pub mod FairTrees
 pub mod TreeLaws

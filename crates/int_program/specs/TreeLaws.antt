@@ -11,10 +11,12 @@ use Rattle.int_program.specs.Points.{IsPoint, value_of}
 use Rattle.int_program.specs.Weighted.{dual_bound, right_side, rows_least}
 use Rattle.int_program.specs.Stopping.{tried_dual, tried_far}
 use Rattle.int_program.specs.Numbers.{dual_numbers, far_numbers, where_all_fit}
-use Rattle.int_program.specs.Accepts.{Accepts}
+use Rattle.int_program.specs.Accepts.{IsAccepted, Accepts}
 use Rattle.int_program.specs.Cases.{AreCases}
 use Rattle.int_program.specs.Counting.{root_points, split_count, IsCut, IsCutTree}
 use Rattle.int_program.specs.Fair.{IsFairSplit, IsFair}
+use Rattle.int_program.specs.Places.{OfEachNode}
+use Rattle.int_program.specs.FairTrees.{IsAcceptedButOpen}
 
 -- a tree that is accepted for a value leaves no point with a greater value
 abbrev pub NoPointIsBetter : Type 0
@@ -67,3 +69,11 @@ FairSplitsCut = (owed : Bool) (above : ℕ) (ip : Ip) (b : IpBox) (v : ℕ) (k :
 -- a node that is fair where tightening is owed is fair where it isn't
 abbrev pub FairWithoutTightening : Type 0
 FairWithoutTightening = (above : ℕ) (ip : Ip) (known : Option ℤ) (b : IpBox) (node : Node) → IsFair true above ip known b node → IsFair false above ip known b node
+
+-- the places of a tree have the boxes of the list of open boxes
+abbrev pub PlacesHaveTheBoxes : Type 0
+PlacesHaveTheBoxes = (ip : Ip) (known : Option ℤ) (tree : Tree) → OfEachNode ip (λ p node. IsAccepted ip known p.within node) tree ↔ Accepts ip known tree
+
+-- a tree that is accepted but for its open leaves has fewer splits than its root box has points
+abbrev pub OpenTreesAreShort : Type 0
+OpenTreesAreShort = (ip : Ip) (known : Option ℤ) (tree : Tree) → IsNonempty (root_of ip) → IsAcceptedButOpen ip known tree → split_count tree.nodes < root_points ip

@@ -12,11 +12,13 @@ ghost use Rattle.int_program.specs.Points.{IsPoint, value_of};
 ghost use Rattle.int_program.specs.Weighted.{dual_bound, right_side, rows_least};
 ghost use Rattle.int_program.specs.Stopping.{tried_dual, tried_far};
 ghost use Rattle.int_program.specs.Numbers.{dual_numbers, far_numbers, where_all_fit};
-ghost use Rattle.int_program.specs.Accepts.{Accepts};
+ghost use Rattle.int_program.specs.Accepts.{IsAccepted, Accepts};
 ghost use Rattle.int_program.specs.Cases.{AreCases};
 ghost use Rattle.int_program.specs.Counting.{root_points, split_count, IsCut, IsCutTree};
 ghost use Rattle.int_program.specs.Fair.{IsFairSplit, IsFair};
-ghost use Rattle.int_program.specs.TreeLaws.{NoPointIsBetter, NoPointIsLeft, AcceptedForGreaterValues, AcceptedForEachValue, AcceptedTreesAreShort, CuttingTreesAreShort, ListsAcceptAsTrees, DualSumsStop, FarSumsStop, RowsAreSmall, GoalIsSmall, FairSplitsCut, FairWithoutTightening};
+ghost use Rattle.int_program.specs.Places.{OfEachNode};
+ghost use Rattle.int_program.specs.FairTrees.{IsAcceptedButOpen};
+ghost use Rattle.int_program.specs.TreeLaws.{NoPointIsBetter, NoPointIsLeft, AcceptedForGreaterValues, AcceptedForEachValue, AcceptedTreesAreShort, CuttingTreesAreShort, ListsAcceptAsTrees, DualSumsStop, FarSumsStop, RowsAreSmall, GoalIsSmall, FairSplitsCut, FairWithoutTightening, PlacesHaveTheBoxes, OpenTreesAreShort};
 
 /// A tree that is accepted for a value leaves no point with a greater value; one that is accepted for none leaves no point.
 pub fn accepted_trees_leave_no_better_point()
@@ -62,4 +64,11 @@ pub fn boxes_inside_the_root_are_small()
 pub fn fair_splits_cut()
     ensures cut { FairSplitsCut }
     ensures owed { FairWithoutTightening }
+{}
+
+/// The recursion on the list of open places goes through the boxes of that on the list of open boxes; and a tree that is
+/// accepted but for its open leaves has fewer splits than its root box has points.
+pub fn places_have_the_boxes_of_the_list()
+    ensures boxes { PlacesHaveTheBoxes }
+    ensures short { OpenTreesAreShort }
 {}

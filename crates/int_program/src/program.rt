@@ -70,6 +70,13 @@ pub struct Tree {
     pub nodes: Items<Node>,
 }
 
+/// An open place of a tree: its box, and how many tightenings stand directly above it.
+#[derive(Debug, Drop)]
+pub struct Place {
+    pub within: IpBox,
+    pub above: u32,
+}
+
 /// Why a node is not accepted on its box.
 #[derive(Clone, Copy, Debug, Eq, PartialEq)]
 pub enum Why {

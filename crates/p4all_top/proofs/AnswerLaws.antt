@@ -3,15 +3,18 @@ use Rattle.std.proofs.Common.{◌≡◌, ℕ, zero, suc, ◌<◌, List, [], ◌�
 use Rattle.std.specs.Prelude.{IfSome, IfOk, Result, Ok, Err, slice_get}
 use Rattle.elastic_ast.specs.Tree.{Name, PlainProgram}
 use Rattle.elastic_ast.specs.Sizes.SizeSums.{symbols_of}
+use Rattle.elastic_ast.specs.Units.UnitsOf.{OpsFit, units_of}
 use Rattle.target_desc.specs.declared.target.Target.{Target}
 use Rattle.box_listing.specs.declared.choosing.Choice.{Choice}
 use Rattle.box_listing.specs.declared.choosing.Choice.TheVariants as choice
 use Rattle.p4all_top.specs.declared.sizing.Outcome.{Outcome}
 use Rattle.p4all_top.specs.declared.status.Status.{Status}
 use Rattle.p4all_top.specs.Answer.{Answer}
+use Rattle.p4all_top.specs.declared.status.Status.TheVariants as status
 use Rattle.box_listing.specs.Choice.{IsChoice}
+use Rattle.unit_flow.specs.TooLarge.{IsFirstAbove}
 use Rattle.p4all_top.specs.Command.{Size}
-use Rattle.p4all_top.specs.Printed.{sizes_text, unbounded_text}
+use Rattle.p4all_top.specs.Printed.{sizes_text, unit_text, unbounded_text}
 use Rattle.p4all_top.specs.Shown.{IsAnswerFor, ShowsChoice}
 
 there : (names : List Name) (place : ℕ) → place < length names → (name : Name) × (slice_get names place ≡ Some name)
@@ -20,45 +23,55 @@ there (x ∷ xs) zero h = (x, refl)
 there (x ∷ xs) (suc place) h = there xs place (omega arith)
 
 -- what is shown for a choice is the answer
-answer_is : (decls : PlainProgram) (on : Target) (made : Choice) (outcome : Outcome) → IsChoice decls on made → ShowsChoice (symbols_of decls) made outcome → IsAnswerFor decls on outcome.status outcome.lines
-answer_is decls on (choice.Best sizes value) outcome chosen shows source target text description taken =
+answer_is : (decls : PlainProgram) (on : Target) (made : Choice) (outcome : Outcome) → OpsFit decls on.ops → IsChoice decls on made → ShowsChoice (symbols_of decls) made outcome → IsAnswerFor decls on outcome.status outcome.lines
+answer_is decls on (choice.Best sizes value) outcome fits chosen shows source target text description taken =
     subst (λ (z : Status). Answer (Size source target) (text ∷ description ∷ []) z [] outcome.lines) (sym shows.0) (
       refl,
       record {
         decls = decls;
         on = on;
         taken = taken;
+        fits = fits;
         bounded = chosen.0;
         sizes = sizes.values;
         best = chosen.1;
         lines = shows.1 ∙ ap (λ z. sizes_text (symbols_of decls) sizes.values z) chosen.2;
       },
     )
-answer_is decls on choice.Infeasible outcome chosen shows source target text description taken =
+answer_is decls on choice.Infeasible outcome fits chosen shows source target text description taken =
     subst (λ (z : Status). Answer (Size source target) (text ∷ description ∷ []) z [] outcome.lines) (sym shows.0)
-    (refl, record { decls = decls; on = on; taken = taken; bounded = chosen.0; none = chosen.1; line = shows.1 })
-answer_is decls on (choice.Unbounded symbol) outcome chosen shows source target text description taken =
+    (refl, record { decls = decls; on = on; taken = taken; fits = fits; bounded = chosen.0; none = chosen.1; line = shows.1 })
+answer_is decls on (choice.Unbounded symbol) outcome fits chosen shows source target text description taken =
     let name = there (symbols_of decls) symbol chosen.1.within in
     subst (λ (z : Status). Answer (Size source target) (text ∷ description ∷ []) z [] outcome.lines) (sym shows.0) (
       refl,
-      inr (inr (inl record {
+      inr (inr (inr (inl record {
         decls = decls;
         on = on;
         taken = taken;
+        fits = fits;
         no_main = chosen.0;
         place = symbol;
         unbounded = chosen.1;
         symbol = name.0;
         named = name.1;
         line = subst (λ (z : Option Name). IfSome z (λ name. outcome.lines ≡ unbounded_text name)) name.1 shows.1;
-      })),
+      }))),
     )
-answer_is decls on choice.NotYet outcome chosen shows source target text description taken =
+answer_is decls on choice.NotYet outcome fits chosen shows source target text description taken =
     subst (λ (z : Status). Answer (Size source target) (text ∷ description ∷ []) z [] outcome.lines) (sym shows.0)
-    (refl, inr (inr (inr record { decls = decls; on = on; taken = taken; cause = chosen; line = shows.1 })))
+    (refl, inr (inr (inr (inr record { decls = decls; on = on; taken = taken; fits = fits; cause = chosen; line = shows.1 }))))
 
 -- and so where there is memory for it
-pub answer_found : (decls : PlainProgram) (on : Target) (symbols : List Name) (made : Choice) {E : Type 0} (result : Result Outcome E) → symbols ≡ symbols_of decls → IsChoice decls on made → IfOk result (ShowsChoice symbols made)
+pub answer_found : (decls : PlainProgram) (on : Target) (symbols : List Name) (made : Choice) {E : Type 0} (result : Result Outcome E) → OpsFit decls on.ops → symbols ≡ symbols_of decls → IsChoice decls on made → IfOk result (ShowsChoice symbols made)
     → IfOk result (λ outcome. IsAnswerFor decls on outcome.status outcome.lines)
-answer_found decls on symbols made (Ok outcome) e chosen shows = answer_is decls on made outcome chosen (subst (λ (z : List Name). ShowsChoice z made outcome) e shows)
-answer_found decls on symbols made (Err x) e chosen shows = tt
+answer_found decls on symbols made (Ok outcome) fits e chosen shows = answer_is decls on made outcome fits chosen (subst (λ (z : List Name). ShowsChoice z made outcome) e shows)
+answer_found decls on symbols made (Err x) fits e chosen shows = tt
+
+-- what is shown for a unit that is too large is the answer, where there is memory for it
+pub unit_found : (decls : PlainProgram) (on : Target) (unit ops : ℕ) {E : Type 0} (result : Result Outcome E) → IsFirstAbove (units_of decls) on.ops unit ops → IfOk result (λ outcome. outcome.status ≡ status.Refused)
+    → IfOk result (λ outcome. outcome.lines ≡ unit_text unit ops) → IfOk result (λ outcome. IsAnswerFor decls on outcome.status outcome.lines)
+unit_found decls on unit ops (Ok outcome) first ended shown = λ source target text description taken.
+    subst (λ (z : Status). Answer (Size source target) (text ∷ description ∷ []) z [] outcome.lines) (sym ended)
+    (refl, inr (inr (inl record { decls = decls; on = on; taken = taken; unit = unit; ops = ops; first = first; line = shown })))
+unit_found decls on unit ops (Err x) first ended shown = tt

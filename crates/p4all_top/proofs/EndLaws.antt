@@ -1,8 +1,12 @@
 -- How a run must end, from what it answers: no two causes stand together.
-use Rattle.std.proofs.Common.{◌≡◌, ℕ, ◌<◌, ◌≤◌, List, [], ◌∷◌, length, get_or, Option, Some, None, refl, sym, ap, ◌∙◌, subst, true≢false, arith, inl, inr, rules}
+use Rattle.std.proofs.Common.{◌≡◌, ℕ, zero, suc, ◌<◌, ◌≤◌, List, [], ◌∷◌, length, get_or, Option, Some, None, refl, sym, ap, ◌∙◌, subst, true≢false, arith, inl, inr, rules}
+use Rattle.std.specs.Prelude.{All, option_map, slice_get}
 use Rattle.std.proofs.lemmas.Grind.{same_number_lists}
+use Rattle.std.proofs.lemmas.List.Elements.{All-head, All-tail}
 use Rattle.elastic_ast.specs.Tree.{PlainProgram}
 use Rattle.elastic_ast.specs.Sizes.SizeSums.{symbols_of}
+use Rattle.elastic_ast.specs.Units.PlainUnits.{PlainUnit}
+use Rattle.elastic_ast.specs.Units.UnitsOf.{OpsFit, units_of}
 use Rattle.target_desc.specs.declared.target.Target.{Target}
 use Rattle.target_desc.specs.declared.target.TargetError.TheVariants as described
 use Rattle.target_desc.specs.TargetText.{IsTargetText}
@@ -13,6 +17,7 @@ use Rattle.p4all_top.specs.declared.status.Status.{Status}
 use Rattle.p4all_top.specs.declared.status.Status.TheVariants as status
 use Rattle.p4all_top.specs.Answer.{Answer, AreTaken}
 use Rattle.box_listing.specs.Choice.{IsBounded, IsNotYet}
+use Rattle.unit_flow.specs.TooLarge.{IsFirstAbove}
 use Rattle.unroll_bound.specs.ProgramBounds.{bound_of, AreBoundsOf, IsUnbounded}
 use Rattle.p4all_top.specs.Command.{Size}
 use Rattle.p4all_top.specs.Description.{IsDescription, IsNoDescription, IsTargetRefused}
@@ -48,37 +53,62 @@ never_both decls on few (inr many) =
     let large = many.many in
     absurd (omega (arith, e, listable, large))
 
+-- where a unit is too large, not all of them fit
+too_large : (units : List PlainUnit) (most unit ops : ℕ) → option_map (λ unit. unit.ops) (slice_get units unit) ≡ Some ops → most < ops → All (λ unit. unit.ops ≤ most) units → ⊥
+too_large [] most unit ops here above fits = absurd (cc here)
+too_large (u ∷ us) most zero ops here above fits =
+    let e : u.ops ≡ ops = cc in
+    let h = All-head (λ unit. unit.ops ≤ most) u us fits in
+    absurd (omega (arith, e, h, above))
+too_large (u ∷ us) most (suc unit) ops here above fits = too_large us most unit ops here above (All-tail (λ unit. unit.ops ≤ most) u us fits)
+
+never_fits : (decls : PlainProgram) (on : Target) (unit ops : ℕ) → IsFirstAbove (units_of decls) on.ops unit ops → OpsFit decls on.ops → ⊥
+never_fits decls on unit ops first fits = too_large (units_of decls) on.ops unit ops first.here first.above fits
+
 -- how a run ends that answers a program on a target
-answers_best : (decls : PlainProgram) (on : Target) → IsBounded decls on → (sizes : List ℕ) → Feasible decls on sizes [] → EndsOn decls on status.Done
-answers_best decls on bounded sizes feasible = record {
-  unbounded = λ _ place u. absurd (never_missing decls on bounded.bounds place bounded.are_bounds u);
-  not_yet = λ cause. absurd (never_both decls on bounded cause);
-  best = λ _ sizes placement good. refl;
-  none = λ _ infeasible. absurd (infeasible sizes [] feasible);
+answers_unit : (decls : PlainProgram) (on : Target) (unit ops : ℕ) → IsFirstAbove (units_of decls) on.ops unit ops → EndsOn decls on status.Refused
+answers_unit decls on unit ops first = record {
+  too_large = λ bad. refl;
+  unbounded = λ _ place u. refl;
+  not_yet = λ cause. refl;
+  best = λ fits bounded sizes placement good. absurd (never_fits decls on unit ops first fits);
+  none = λ fits bounded infeasible. absurd (never_fits decls on unit ops first fits);
 }
 
-answers_infeasible : (decls : PlainProgram) (on : Target) → IsBounded decls on → Infeasible decls on → EndsOn decls on status.Infeasible
-answers_infeasible decls on bounded none = record {
+answers_best : (decls : PlainProgram) (on : Target) → OpsFit decls on.ops → IsBounded decls on → (sizes : List ℕ) → Feasible decls on sizes [] → EndsOn decls on status.Done
+answers_best decls on fits bounded sizes feasible = record {
+  too_large = λ bad. absurd (bad fits);
   unbounded = λ _ place u. absurd (never_missing decls on bounded.bounds place bounded.are_bounds u);
   not_yet = λ cause. absurd (never_both decls on bounded cause);
-  best = λ _ sizes placement good. absurd (none sizes placement good);
-  none = λ _ infeasible. refl;
+  best = λ _ _ sizes placement good. refl;
+  none = λ _ _ infeasible. absurd (infeasible sizes [] feasible);
+}
+
+answers_infeasible : (decls : PlainProgram) (on : Target) → OpsFit decls on.ops → IsBounded decls on → Infeasible decls on → EndsOn decls on status.Infeasible
+answers_infeasible decls on fits bounded none = record {
+  too_large = λ bad. absurd (bad fits);
+  unbounded = λ _ place u. absurd (never_missing decls on bounded.bounds place bounded.are_bounds u);
+  not_yet = λ cause. absurd (never_both decls on bounded cause);
+  best = λ _ _ sizes placement good. absurd (none sizes placement good);
+  none = λ _ _ infeasible. refl;
 }
 
 answers_unbounded : (decls : PlainProgram) (on : Target) (place : ℕ) → IsUnbounded decls on place → EndsOn decls on status.Refused
 answers_unbounded decls on place unbounded = record {
+  too_large = λ bad. refl;
   unbounded = λ _ place u. refl;
   not_yet = λ cause. refl;
-  best = λ bounded sizes placement good. absurd (never_missing decls on bounded.bounds place bounded.are_bounds unbounded);
-  none = λ bounded infeasible. absurd (never_missing decls on bounded.bounds place bounded.are_bounds unbounded);
+  best = λ _ bounded sizes placement good. absurd (never_missing decls on bounded.bounds place bounded.are_bounds unbounded);
+  none = λ _ bounded infeasible. absurd (never_missing decls on bounded.bounds place bounded.are_bounds unbounded);
 }
 
 answers_not_yet : (decls : PlainProgram) (on : Target) → IsNotYet decls on → EndsOn decls on status.Refused
 answers_not_yet decls on cause = record {
+  too_large = λ bad. refl;
   unbounded = λ _ place u. refl;
   not_yet = λ cause. refl;
-  best = λ bounded sizes placement good. absurd (never_both decls on bounded cause);
-  none = λ bounded infeasible. absurd (never_both decls on bounded cause);
+  best = λ _ bounded sizes placement good. absurd (never_both decls on bounded cause);
+  none = λ _ bounded infeasible. absurd (never_both decls on bounded cause);
 }
 
 one_target : (text : List ℕ) (one other : Target) → IsTargetText text one → IsTargetText text other → one ≡ other
@@ -115,8 +145,8 @@ ends_both source target decls on ended taken ends = record {
 
 -- what a source and a description make of the end
 pub ends_by : (source target text description : List ℕ) (ended : Status) (set : List (List ℕ × List ℕ)) (printed : List ℕ) → Answer (Size source target) (text ∷ description ∷ []) ended set printed → EndsBy text description ended
-ends_by source target text description status.Done set printed (_, a) = ends_both text description a.decls a.on status.Done a.taken (answers_best a.decls a.on a.bounded a.sizes a.best.feasible)
-ends_by source target text description status.Infeasible set printed (_, a) = ends_both text description a.decls a.on status.Infeasible a.taken (answers_infeasible a.decls a.on a.bounded a.none)
+ends_by source target text description status.Done set printed (_, a) = ends_both text description a.decls a.on status.Done a.taken (answers_best a.decls a.on a.fits a.bounded a.sizes a.best.feasible)
+ends_by source target text description status.Infeasible set printed (_, a) = ends_both text description a.decls a.on status.Infeasible a.taken (answers_infeasible a.decls a.on a.fits a.bounded a.none)
 ends_by source target text description status.Refused set printed (_, inl a) = record {
   no_source = λ bad. refl;
   no_target = λ bad. refl;
@@ -127,8 +157,9 @@ ends_by source target text description status.Refused set printed (_, inr (inl a
   no_target = λ bad. refl;
   both = λ decls on short program described. absurd (no_target description on described (refused_target description a.why a.cause));
 }
-ends_by source target text description status.Refused set printed (_, inr (inr (inl a))) = ends_both text description a.decls a.on status.Refused a.taken (answers_unbounded a.decls a.on a.place a.unbounded)
-ends_by source target text description status.Refused set printed (_, inr (inr (inr a))) = ends_both text description a.decls a.on status.Refused a.taken (answers_not_yet a.decls a.on a.cause)
+ends_by source target text description status.Refused set printed (_, inr (inr (inl a))) = ends_both text description a.decls a.on status.Refused a.taken (answers_unit a.decls a.on a.unit a.ops a.first)
+ends_by source target text description status.Refused set printed (_, inr (inr (inr (inl a)))) = ends_both text description a.decls a.on status.Refused a.taken (answers_unbounded a.decls a.on a.place a.unbounded)
+ends_by source target text description status.Refused set printed (_, inr (inr (inr (inr a)))) = ends_both text description a.decls a.on status.Refused a.taken (answers_not_yet a.decls a.on a.cause)
 ends_by source target text description _ set printed a = absurd a
 
 -- a run that was stopped may be one of any source and description
@@ -137,10 +168,11 @@ may_stop source target ended stopped = record {
   no_source = λ bad. any status.Refused ended stopped;
   no_target = λ bad. any status.Refused ended stopped;
   both = λ decls on short program described. record {
+    too_large = λ bad. any status.Refused ended stopped;
     unbounded = λ _ place u. any status.Refused ended stopped;
     not_yet = λ cause. any status.Refused ended stopped;
-    best = λ bounded sizes placement feasible. any status.Done ended stopped;
-    none = λ bounded infeasible. any status.Infeasible ended stopped;
+    best = λ _ bounded sizes placement feasible. any status.Done ended stopped;
+    none = λ _ bounded infeasible. any status.Infeasible ended stopped;
   };
 }
   where

@@ -4,16 +4,18 @@ use Rattle.std.specs.Prelude.{◌≡◌, ◌⊎◌, ℕ, List, [], ◌∷◌, fa
 use Rattle.elastic_ast.specs.Tree.{Name, PlainProgram}
 use Rattle.elastic_ast.specs.Typing.Asked.{DeclKind, has}
 use Rattle.elastic_ast.specs.Sizes.SizeSums.{symbols_of, utility}
+use Rattle.elastic_ast.specs.Units.UnitsOf.{OpsFit, units_of}
 use Rattle.target_desc.specs.declared.target.Target.{Target}
 use Rattle.p4all_top.specs.declared.parsing.Refusal.{Refusal}
 use Rattle.p4all_top.specs.declared.status.Status.{Status}
 use Rattle.p4all_top.specs.declared.status.Status.TheVariants as status
 use Rattle.box_listing.specs.Choice.{IsBounded, IsNotYet}
+use Rattle.unit_flow.specs.TooLarge.{IsFirstAbove}
 use Rattle.unroll_bound.specs.ProgramBounds.{IsUnbounded}
 use Rattle.p4all_top.specs.Command.{Command, Size}
 use Rattle.p4all_top.specs.Description.{IsDescription, IsTargetRefused}
 use Rattle.dep_graph.specs.Optimum.{Best, Infeasible}
-use Rattle.p4all_top.specs.Printed.{sizes_text, infeasible_text, unbounded_text, notyet_text, refusal_text}
+use Rattle.p4all_top.specs.Printed.{sizes_text, infeasible_text, unit_text, unbounded_text, notyet_text, refusal_text}
 use Rattle.p4all_top.specs.Source.{IsSource, IsSourceRefused}
 
 -- the source is taken, with this program, and so is the description, with this target
@@ -26,6 +28,7 @@ pub record PrintsBest (source target printed : List ℕ) : Type 0 where
   pub decls : PlainProgram
   pub on : Target
   pub taken : AreTaken source target decls on
+  pub fits : OpsFit decls on.ops
   pub bounded : IsBounded decls on
   pub sizes : List ℕ
   pub best : Best decls on sizes []
@@ -36,15 +39,28 @@ pub record PrintsInfeasible (source target printed : List ℕ) : Type 0 where
   pub decls : PlainProgram
   pub on : Target
   pub taken : AreTaken source target decls on
+  pub fits : OpsFit decls on.ops
   pub bounded : IsBounded decls on
   pub none : Infeasible decls on
   pub line : printed ≡ infeasible_text
+
+-- a unit is too large: the line names the first unit of the program that has more operators than the target allows, and how many
+-- it has
+pub record RefusesUnit (source target printed : List ℕ) : Type 0 where
+  pub decls : PlainProgram
+  pub on : Target
+  pub taken : AreTaken source target decls on
+  pub unit : ℕ
+  pub ops : ℕ
+  pub first : IsFirstAbove (units_of decls) on.ops unit ops
+  pub line : printed ≡ unit_text unit ops
 
 -- unbounded: the program declares no `main`, and the line names the first symbol that has no bound
 pub record RefusesUnbounded (source target printed : List ℕ) : Type 0 where
   pub decls : PlainProgram
   pub on : Target
   pub taken : AreTaken source target decls on
+  pub fits : OpsFit decls on.ops
   pub no_main : has DeclKind.Main decls ≡ false
   pub place : ℕ
   pub unbounded : IsUnbounded decls on place
@@ -57,6 +73,7 @@ pub record RefusesNotYet (source target printed : List ℕ) : Type 0 where
   pub decls : PlainProgram
   pub on : Target
   pub taken : AreTaken source target decls on
+  pub fits : OpsFit decls on.ops
   pub cause : IsNotYet decls on
   pub line : printed ≡ notyet_text
 
@@ -80,5 +97,5 @@ Answer (Size _ _) (source ∷ target ∷ []) status.Done set printed = (set ≡ 
 Answer (Size _ _) (source ∷ target ∷ []) status.Infeasible set printed = (set ≡ []) × PrintsInfeasible source target printed
 Answer (Size _ _) (source ∷ target ∷ []) status.Refused set printed =
     (set ≡ [])
-    × (RefusesSource source printed ⊎ RefusesTarget source target printed ⊎ RefusesUnbounded source target printed ⊎ RefusesNotYet source target printed)
+    × (RefusesSource source printed ⊎ RefusesTarget source target printed ⊎ RefusesUnit source target printed ⊎ RefusesUnbounded source target printed ⊎ RefusesNotYet source target printed)
 Answer (Size _ _) _ _ set printed = ⊥

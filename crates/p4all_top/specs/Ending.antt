@@ -4,6 +4,7 @@ use Rattle.std.specs.Prelude.{◌≡◌, ◌≤◌, ℕ, false, List, [], ◌∷
 use Rattle.elastic_ast.specs.declared.flat.At.{At}
 use Rattle.elastic_ast.specs.Tree.{PlainProgram}
 use Rattle.elastic_ast.specs.Typing.Asked.{DeclKind, has}
+use Rattle.elastic_ast.specs.Units.UnitsOf.{OpsFit}
 use Rattle.target_desc.specs.declared.target.Target.{Target}
 use Rattle.p4all_top.specs.declared.status.Status.{Status}
 use Rattle.p4all_top.specs.declared.status.Status.TheVariants as status
@@ -22,12 +23,14 @@ MustEnd expected status.Memory = Unit {0}
 MustEnd expected status.Fault = Unit {0}
 MustEnd expected ended = ended ≡ expected
 
--- what a program and a target make of the end. Of a program that declares `main` nothing is chosen yet
+-- what a program and a target make of the end. Sizes are chosen where no unit has more operators than the target allows, and of a
+-- program that declares `main` not yet
 pub record EndsOn (decls : PlainProgram) (on : Target) (ended : Status) : Type 0 where
+  pub too_large : (OpsFit decls on.ops → ⊥) → MustEnd status.Refused ended
   pub not_yet : IsNotYet decls on → MustEnd status.Refused ended
   pub unbounded : has DeclKind.Main decls ≡ false → (place : ℕ) → IsUnbounded decls on place → MustEnd status.Refused ended
-  pub best : IsBounded decls on → (sizes : List ℕ) (placement : List At) → Feasible decls on sizes placement → MustEnd status.Done ended
-  pub none : IsBounded decls on → Infeasible decls on → MustEnd status.Infeasible ended
+  pub best : OpsFit decls on.ops → IsBounded decls on → (sizes : List ℕ) (placement : List At) → Feasible decls on sizes placement → MustEnd status.Done ended
+  pub none : OpsFit decls on.ops → IsBounded decls on → Infeasible decls on → MustEnd status.Infeasible ended
 
 -- what a source and a description make of it: each way to end comes wherever its cause is there
 pub record EndsBy (source target : List ℕ) (ended : Status) : Type 0 where

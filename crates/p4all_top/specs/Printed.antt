@@ -41,6 +41,10 @@ begun_cause what cause = with_word (begun_refusal what) cause
 abbrev pub refused_text : List ℕ → List ℕ → List ℕ
 refused_text why named = with_end (begun_cause why named)
 
+-- the line `refused unit UNIT OPS`
+abbrev pub unit_text : ℕ → ℕ → List ℕ
+unit_text unit ops = with_end (with_number (with_number (begun_refusal (codes "unit")) (pos unit)) (pos ops))
+
 abbrev pub unbounded_text : List ℕ → List ℕ
 unbounded_text symbol = refused_text (codes "unbounded") symbol
 

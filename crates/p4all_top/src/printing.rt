@@ -1,7 +1,7 @@
 //! The lines that the commands print.
 
 ghost use Rattle.std.specs.Prelude.{◌≡◌, ◌≤◌, length, IfOk, OnOk};
-ghost use Rattle.p4all_top.specs.Printed.{with_size, with_utility, sizes_text, infeasible_text, unbounded_text};
+ghost use Rattle.p4all_top.specs.Printed.{with_size, with_utility, sizes_text, infeasible_text, unit_text, unbounded_text};
 ghost use Rattle.p4all_top.specs.Printed.{notyet_text, begun_cause, begun_refusal, begun_rule, refused_text, source_text, rule_line_text, target_text, refusal_text};
 
 use crate::parsing::Refusal;
@@ -55,6 +55,17 @@ pub fn infeasible_line(alloc: Global) -> Result<Lines, AllocError>
 {
     let mut lines = Lines::new(alloc);
     lines.word(b"infeasible")?;
+    lines.end()?;
+    Ok(lines)
+}
+
+/// The line that refuses a program whose unit of this number has so many operators.
+pub fn unit_line(alloc: Global, unit: u32, ops: u32) -> Result<Lines, AllocError>
+    ensures { IfOk result (λ lines. lines ≡ unit_text unit ops) }
+{
+    let mut lines = refusal_begun(alloc, b"unit")?;
+    lines.number(i128::from(unit))?;
+    lines.number(i128::from(ops))?;
     lines.end()?;
     Ok(lines)
 }

@@ -10,12 +10,17 @@ const ROWS_AND_COLS: &str =
     "symbolic int rows; symbolic int cols; assume(rows >= 1 && rows <= 3); assume(cols <= 100); \
     struct meta_t { bit<16>[rows] idx; } maximize(10*rows + cols);";
 
-/// A target with one stage and these header bits.
-pub fn one_stage(alloc: Global, header_bits: u32) -> Result<String, AllocError> {
+/// A target with one stage, these header bits and this number of operators.
+fn one_stage_with(alloc: Global, header_bits: u32, ops: u32) -> Result<String, AllocError> {
     format!(in alloc;
         "stages = 1\nmemory_bits = 1024\nstateful = 2\nstateless = 8\ntable_bits = 1024\n\
-        ternary_bits = 1024\nheader_bits = {header_bits}\nops = 8\n"
+        ternary_bits = 1024\nheader_bits = {header_bits}\nops = {ops}\n"
     )
+}
+
+/// A target with one stage and these header bits.
+pub fn one_stage(alloc: Global, header_bits: u32) -> Result<String, AllocError> {
+    one_stage_with(alloc, header_bits, 8)
 }
 
 /// Runs `size` on a source and a target's description, where the calls of the shelf with these numbers fail.
@@ -330,25 +335,70 @@ fn a_source_is_refused_for_its_first_cause(rt: HostRuntime) -> Result<(), Fail> 
     Ok(())
 }
 
-/// A whole program whose control assigns in so many conditions, each in the one before.
-fn nested(alloc: Global, conditions: usize) -> Result<String, AllocError> {
-    let opened = "if (hdr.h.v == 0) {".repeat(alloc, conditions)?;
-    let closed = "}".repeat(alloc, conditions)?;
+/// A whole program whose control has this body.
+fn whole(alloc: Global, body: &str) -> Result<String, AllocError> {
     format!(in alloc;
         "header h_t {{ bit<8> v; }} struct headers_t {{ h_t h; }} struct meta_t {{ }}\n\
         parser P(packet_in pkt, out headers_t hdr, inout meta_t meta, inout std_t std) {{\n\
         state start {{ pkt.extract(hdr.h); transition accept; }} }}\n\
         control C(inout headers_t hdr, inout meta_t meta, inout std_t std) {{ apply {{\n\
-        {opened} hdr.h.v = 1; {closed} }} }}\n\
+        {body} }} }}\n\
         control D(packet_out pkt, in headers_t hdr) {{ apply {{ pkt.emit(hdr.h); }} }}\n\
         Pisa(P(), C(), D()) main;\n"
     )
 }
 
+/// A whole program whose control assigns in so many conditions, each in the one before.
+fn nested(alloc: Global, conditions: usize) -> Result<String, AllocError> {
+    let opened = "if (hdr.h.v == 0) {".repeat(alloc, conditions)?;
+    let closed = "}".repeat(alloc, conditions)?;
+    let body = format!(in alloc; "{opened} hdr.h.v = 1; {closed}")?;
+    whole(alloc, body.as_str())
+}
+
+const GUARDED: &str = "if (hdr.h.v == 3 && hdr.h.v != 1) { hdr.h.v = (hdr.h.v + 1) ^ hdr.h.v; }";
+
+const RISING: &str = "hdr.h.v = 1; hdr.h.v = hdr.h.v + 1 + 2; hdr.h.v = hdr.h.v + 1 + 2 + 3;";
+
+/// A body of a control, how many operators a unit may have, and the line that refuses the program.
+const BODIES: [(&str, u32, &str); 7] = [
+    ("hdr.h.v = hdr.h.v + 1;", 0, "refused unit 0 1\n"),
+    ("hdr.h.v = 1;", 0, "refused notyet\n"),
+    (RISING, 1, "refused unit 1 2\n"),
+    (RISING, 2, "refused unit 2 3\n"),
+    (RISING, 3, "refused notyet\n"),
+    (GUARDED, 4, "refused unit 0 5\n"),
+    (GUARDED, 5, "refused notyet\n"),
+];
+
+#[test]
+fn the_first_unit_with_too_many_operators_is_refused(rt: HostRuntime) -> Result<(), Fail> {
+    for (body, ops, line) in BODIES {
+        let source = whole(rt.alloc(), body)?;
+        let target = one_stage_with(rt.alloc(), 512, ops)?;
+        let refused = refuses(rt.alloc(), source.as_bytes(), target.as_bytes(), line)?;
+        assert!(rt; refused, "{body} with {ops}");
+    }
+    Ok(())
+}
+
+#[test]
+fn a_large_unit_is_refused_behind_the_target(rt: HostRuntime) -> Result<(), Fail> {
+    let source = whole(rt.alloc(), RISING)?;
+    let refused = refuses(
+        rt.alloc(),
+        source.as_bytes(),
+        b"stages = 1\nops = 1\n",
+        "refused target missing memory_bits\n",
+    )?;
+    assert!(rt; refused);
+    Ok(())
+}
+
 #[test]
 fn eighty_brackets_may_be_open_and_no_more(rt: HostRuntime) -> Result<(), Fail> {
     let target = one_stage(rt.alloc(), 512)?;
-    for (conditions, line) in [(78, "refused notyet\n"), (79, "refused src deep 934\n")] {
+    for (conditions, line) in [(78, "refused unit 0 155\n"), (79, "refused src deep 934\n")] {
         let source = nested(rt.alloc(), conditions)?;
         let refused = refuses(rt.alloc(), source.as_bytes(), target.as_bytes(), line)?;
         assert!(rt; refused, "{conditions}");

@@ -2,19 +2,25 @@
 
 ghost use Rattle.std.specs.Prelude.{◌≡◌, IfOk, length};
 ghost use Rattle.elastic_ast.specs.Seen.{seen_decls};
+ghost use Rattle.elastic_ast.specs.Units.UnitsOf.{OpsFit};
+ghost use Rattle.box_listing.specs.Choice.{AreUnitsFor};
 ghost use Rattle.target_desc.specs.InRange.{IsInRange};
-ghost use Rattle.p4all_top.specs.Printed.{refusal_text};
+ghost use Rattle.p4all_top.specs.Printed.{refusal_text, unit_text};
 ghost use Rattle.p4all_top.specs.Shown.{FitsSymbols, IsAnswerFor, ShowsChoice};
 
 use crate::parsing::Refusal;
-use crate::printing::{infeasible_line, notyet_line, refusal_line, sizes_lines, unbounded_line};
+use crate::printing::{
+    infeasible_line, notyet_line, refusal_line, sizes_lines, unbounded_line, unit_line,
+};
 use crate::status::Status;
 use box_listing::{Choice, choose};
+use elastic_ast::Units;
 use elx_bits::Name;
 use elx_io::Lines;
 use size_terms::terms;
 use std::alloc::{AllocError, Global};
 use target_desc::Target;
+use unit_flow::{UnitError, units};
 use width_check::Checked;
 
 /// The lines that a run prints, and the status that it ends with.
@@ -30,6 +36,18 @@ pub fn refused(alloc: Global, refusal: Refusal) -> Result<Outcome, AllocError>
     ensures lines { IfOk result (λ outcome. outcome.lines ≡ refusal_text refusal) }
 {
     let lines = refusal_line(alloc, refusal)?;
+    Ok(Outcome {
+        status: Status::Refused,
+        lines,
+    })
+}
+
+/// The refusal of a program whose unit of this number has so many operators.
+fn refused_unit(alloc: Global, unit: u32, ops: u32) -> Result<Outcome, AllocError>
+    ensures status { IfOk result (λ outcome. outcome.status ≡ Status.Refused) }
+    ensures lines { IfOk result (λ outcome. outcome.lines ≡ unit_text unit ops) }
+{
+    let lines = unit_line(alloc, unit, ops)?;
     Ok(Outcome {
         status: Status::Refused,
         lines,
@@ -55,6 +73,22 @@ fn outcome_of(alloc: Global, symbols: &[Name], choice: Choice) -> Result<Outcome
     Ok(Outcome { status, lines })
 }
 
+/// The outcome of `size` for a program and a target, where these are the units of the program.
+fn outcome_for(
+    alloc: Global,
+    checked: &Checked,
+    units: &Units,
+    target: &Target,
+) -> Result<Outcome, AllocError>
+    requires units { AreUnitsFor (seen_decls checked.now) units.now }
+    requires fits { OpsFit (seen_decls checked.now) target.now.ops }
+    ensures { IfOk result (λ outcome.
+        IsAnswerFor (seen_decls checked.now) target.now outcome.status outcome.lines) }
+{
+    let choice = choose(alloc, checked, units, target)?;
+    outcome_of(alloc, units.terms.symbols.as_slice(), choice)
+}
+
 /// The outcome of `size` for a program and a target.
 pub fn size_outcome(
     alloc: Global,
@@ -66,6 +100,9 @@ pub fn size_outcome(
         IsAnswerFor (seen_decls checked.now) target.now outcome.status outcome.lines) }
 {
     let terms = terms(alloc, checked)?;
-    let choice = choose(alloc, checked, &terms, target)?;
-    outcome_of(alloc, terms.symbols.as_slice(), choice)
+    match units(alloc, checked, terms, target.ops) {
+        Ok(units) => outcome_for(alloc, checked, &units, target),
+        Err(UnitError::UnitTooLarge { unit, ops }) => refused_unit(alloc, unit, ops),
+        Err(UnitError::Memory) => Err(AllocError),
+    }
 }

@@ -6,3 +6,4 @@ pub mod FaultLaws
 pub mod CheckLaws
 pub mod OrderLaws
 pub mod ExclusionLaws
+pub mod UnitLaws

@@ -7,12 +7,12 @@ use Rattle.size_terms.specs.Rows.{AreShort}
 abbrev pub most_size : ℕ
 most_size = 4294967296
 
--- how many instances stand in a placement at most, and how many symbols there are
+-- how many instances stand in a placement at most, and how many symbols there are, whose numbers have 32 bits
 abbrev pub most_instances : ℕ
 most_instances = 4294967295
 
 abbrev pub most_symbols : ℕ
-most_symbols = 4294967295
+most_symbols = 4294967296
 
 abbrev pub AreSmall : List ℕ → Type 0
 AreSmall sizes = All (λ size. size ≤ most_size) sizes

@@ -9,3 +9,4 @@ pub mod Walking
 pub mod KnownOrders
 pub mod Misplaced
 pub mod Overfull
+pub mod OfUnits

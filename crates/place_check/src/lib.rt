@@ -7,6 +7,7 @@ mod fault;
 mod listing;
 mod order;
 mod overfull;
+mod units;
 mod uses;
 
 pub use checking::{check, faults_exclude_feasible};
@@ -14,4 +15,5 @@ pub use conditions::{are_sizes_of, names_units};
 pub use dep_graph::Resource;
 pub use fault::PlaceFault;
 pub use listing::listed_instances_stand;
+pub use units::{best_units_alike, feasible_units_alike, infeasible_units_alike};
 pub use uses::{StageUse, UseTable, report};

@@ -72,7 +72,7 @@ fn recalled(kept: &mut [Option<Known>], units: &[Unit], first: u32, second: u32)
     if kept.is_empty() {
         return Known::of(units, first, second);
     }
-    let place = (first as usize * 61 + second as usize) % kept.len();
+    let place = (first as usize * 64 + second as usize) % kept.len();
     if let Some(known) = kept[place] {
         if known.first == first && known.second == second {
             return known;
@@ -121,7 +121,8 @@ pub fn first_misplaced(units: &[Unit], placement: &[At]) -> Option<(At, At)>
     requires { NamesUnits (map seen_unit units.now) placement.now }
     ensures { result ≡ first_against (map seen_unit units.now) placement.now }
 {
-    let mut kept = [None; 1024];
+    // Each two of 64 units that stand side by side have a place of their own.
+    let mut kept = [None; 4096];
     for i in 0..placement.len() {
         let first = placement[i];
         if let Some(other) = against_one(&mut kept, units, first, &placement[i + 1..]) {

@@ -1,6 +1,6 @@
 -- The utility of a checked program as a sum and step tables.
 use Rattle.std.proofs.lemmas.Bool.{and_parts}
-use Rattle.std.proofs.Common.{◌≡◌, ℕ, ◌≤◌, Bool, true, is_some, List, [], ◌∷◌, length, Option, Some, None, refl, sym, ap, subst, ◌∙◌, arith, pos, ◌+ℤ◌}
+use Rattle.std.proofs.Common.{◌≡◌, ℕ, ◌≤◌, Bool, true, false, is_some, List, [], ◌∷◌, length, Option, Some, None, refl, sym, ap, subst, ◌∙◌, arith, pos, ◌+ℤ◌}
 use Rattle.std.specs.Prelude.{unwrap_or, All}
 use Rattle.std.specs.List.{list_all}
 use Rattle.std.proofs.lemmas.Int.{ints}
@@ -45,13 +45,21 @@ module _ (symbols : List Name) (minus : Bool) (symbol : Name) (pairs : List (ℕ
 tables_near : (symbols : List Name) (terms : List UtilTerm) → list_all (is_near_util symbols) terms ≡ true → All (IsNearTable (length symbols)) (tables_in symbols terms)
 tables_near symbols [] near = All-nil (IsNearTable (length symbols))
 tables_near symbols (util.Lin term ∷ terms) near = tables_near symbols terms ((and_parts (is_near_util symbols (util.Lin term)) (list_all (is_near_util symbols) terms) near).1)
-tables_near symbols (util.Steps minus symbol pairs ∷ terms) near =
-    All-cons (IsNearTable (length symbols)) (placed_table symbols minus symbol pairs) (tables_in symbols terms) (near_table symbols minus symbol pairs terms near) (tables_near symbols terms ((parts symbols minus symbol pairs terms near).1))
+tables_near symbols (util.Steps minus symbol [] ∷ terms) near = tables_near symbols terms ((parts symbols minus symbol [] terms near).1)
+tables_near symbols (util.Steps minus symbol (pair ∷ pairs) ∷ terms) near =
+    All-cons (IsNearTable (length symbols)) (placed_table symbols minus symbol (pair ∷ pairs)) (tables_in symbols terms) (near_table symbols minus symbol (pair ∷ pairs) terms near)
+    (tables_near symbols terms ((parts symbols minus symbol (pair ∷ pairs) terms near).1))
 
 tables_few : (symbols : List Name) (terms : List UtilTerm) → length (tables_in symbols terms) ≤ length terms
 tables_few symbols [] = omega arith
 tables_few symbols (util.Lin term ∷ terms) = let ih = tables_few symbols terms in omega (arith, ih)
-tables_few symbols (util.Steps minus symbol pairs ∷ terms) = let ih = tables_few symbols terms in omega (arith, ih)
+tables_few symbols (util.Steps minus symbol [] ∷ terms) = let ih = tables_few symbols terms in omega (arith, ih)
+tables_few symbols (util.Steps minus symbol (pair ∷ pairs) ∷ terms) = let ih = tables_few symbols terms in omega (arith, ih)
+
+-- a step table without pairs
+no_worth : (minus : Bool) → negated_if minus (pos 0) ≡ pos 0
+no_worth true = refl
+no_worth false = refl
 
 -- the utility is worth its linear part and its step tables
 both_parts : (symbols : List Name) (terms : List UtilTerm) (sizes : List ℕ) → list_all (is_near_util symbols) terms ≡ true → utils_value symbols sizes terms ≡ linears_value symbols sizes terms +ℤ tables_worth sizes (tables_in symbols terms)
@@ -59,9 +67,13 @@ both_parts symbols [] sizes near = refl
 both_parts symbols (util.Lin term ∷ terms) sizes near =
     let ih = both_parts symbols terms sizes ((and_parts (is_near_util symbols (util.Lin term)) (list_all (is_near_util symbols) terms) near).1) in
     omega (arith, ints, ih)
-both_parts symbols (util.Steps minus symbol pairs ∷ terms) sizes near =
-    let ih = both_parts symbols terms sizes ((parts symbols minus symbol pairs terms near).1) in
-    let here = worth_table symbols minus symbol pairs terms near sizes in
+both_parts symbols (util.Steps minus symbol [] ∷ terms) sizes near =
+    let ih = both_parts symbols terms sizes ((parts symbols minus symbol [] terms near).1) in
+    let nothing = no_worth minus in
+    omega (arith, ints, ih, nothing)
+both_parts symbols (util.Steps minus symbol (pair ∷ pairs) ∷ terms) sizes near =
+    let ih = both_parts symbols terms sizes ((parts symbols minus symbol (pair ∷ pairs) terms near).1) in
+    let here = worth_table symbols minus symbol (pair ∷ pairs) terms near sizes in
     omega (arith, ints, ih, here)
 
 pub utility_is : (symbols : List Name) (decls : List PlainDecl) (utility : Utility) → symbols ≡ symbols_of decls → IsSound decls → IsLinearPart symbols (utility_terms decls) utility.sum → utility.tables ≡ tables_in symbols (utility_terms decls) → IsUtilityOf symbols decls utility

@@ -11,10 +11,11 @@ use Rattle.size_terms.specs.Places.{place_of}
 abbrev pub placed_table : List Name → Bool → Name → List (ℕ × ℕ) → Steps
 placed_table symbols minus symbol pairs = record { minus = minus; symbol = unwrap_or (place_of symbols symbol) 0; pairs = pairs }
 
--- the step table of a term of the utility, where it is one
+-- the step table of a term of the utility, where it is one that has pairs: without any it is worth nothing
 abbrev pub table_in : List Name → UtilTerm → List Steps
 table_in symbols (util.Lin term) = []
-table_in symbols (util.Steps minus symbol pairs) = placed_table symbols minus symbol pairs ∷ []
+table_in symbols (util.Steps minus symbol []) = []
+table_in symbols (util.Steps minus symbol (pair ∷ pairs)) = placed_table symbols minus symbol (pair ∷ pairs) ∷ []
 
 abbrev pub tables_in : List Name → List UtilTerm → List Steps
 tables_in symbols = flat_map (table_in symbols)

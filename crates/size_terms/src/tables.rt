@@ -11,7 +11,7 @@ use elastic_ast::{Steps, UtilTerm};
 use elx_bits::Items;
 use std::alloc::{AllocError, Global};
 
-/// Adds the step table of a term of the utility, if it is one.
+/// Adds the step table of a term of the utility, if it is one that has pairs.
 fn push_table(
     alloc: Global,
     places: &Places<'_>,
@@ -30,6 +30,9 @@ fn push_table(
     else {
         return Ok(());
     };
+    if pairs.as_slice().is_empty() {
+        return Ok(());
+    }
     // The symbol of a table that was checked has a place.
     if let Some(place) = places.place_of(symbol) {
         tables.push(Steps {
@@ -41,7 +44,7 @@ fn push_table(
     Ok(())
 }
 
-/// The step tables of the utility, in the order of the text.
+/// The step tables of the utility that have pairs, in the order of the text.
 pub fn step_tables(
     alloc: Global,
     places: &Places<'_>,

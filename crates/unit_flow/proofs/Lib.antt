@@ -5,3 +5,9 @@ pub mod ProgramLaws
 pub mod CountLaws
 pub mod ApartLaws
 pub mod HeaderLaws
+pub mod StandLaws
+pub mod ControlLaws
+pub mod PieceLaws
+pub mod KeptLaws
+pub mod OwnLaws
+pub mod SoundLaws

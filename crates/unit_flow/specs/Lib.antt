@@ -6,3 +6,6 @@ pub mod PieceUnit
 pub mod Knowing
 pub mod HeaderCounts
 pub mod CountedUnits
+pub mod SoundUnits
+pub mod TermsOf
+pub mod OwnLocations

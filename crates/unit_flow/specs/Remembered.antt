@@ -7,7 +7,8 @@ use Rattle.program_names.specs.FirstNamed.{entry_value}
 use Rattle.unit_parts.specs.declared.callee.Summary.{Summary}
 use Rattle.unit_parts.specs.Called.{Called, Nothing, OfAction, OfTable}
 use Rattle.unit_flow.specs.declared.summaries.Summaries.{Summaries}
-use Rattle.unit_flow.specs.Callees.{IsSummaryOf}
+use Rattle.unit_flow.specs.declared.called.Call.{Call}
+use Rattle.unit_flow.specs.Callees.{IsSummaryOf, seen_call}
 
 abbrev pub SummaryEntries : Type 0
 SummaryEntries = List (Bor (List ℕ) × Summary)
@@ -15,6 +16,12 @@ SummaryEntries = List (Bor (List ℕ) × Summary)
 -- a name has got a summary
 abbrev pub Puts : SummaryEntries → SummaryEntries → Name → Summary → Type 0
 Puts old new key summary = (name : Name) → entry_value new name ≡ (if same name key then Some summary else entry_value old name)
+
+-- what it has got is a summary of what is called
+pub record PutsCall (decls : List PlainDecl) (call : Call) (old new : SummaryEntries) (key : Name) : Type 0 where
+  pub summary : Summary
+  pub puts : Puts old new key summary
+  pub is_summary : IsSummaryOf decls (seen_call call) summary
 
 -- what stands under a name is a summary of what the program declares under it
 abbrev pub Tell : List PlainDecl → (Name → Called) → SummaryEntries → Type 0

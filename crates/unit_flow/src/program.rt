@@ -7,6 +7,9 @@ ghost use Rattle.elastic_ast.specs.Units.SeenUnits.{seen_unit, seen_units};
 ghost use Rattle.elastic_ast.specs.Units.UnitsOf.{UnitsOf, OpsFit, units_of};
 ghost use Rattle.unit_flow.specs.Knowing.{Knows, known_decls};
 ghost use Rattle.unit_flow.specs.CountedUnits.{AreCounted};
+ghost use Rattle.unit_flow.specs.OwnLocations.{OwnLocations};
+ghost use Rattle.unit_flow.specs.SoundUnits.{SoundUnits};
+ghost use Rattle.unit_flow.specs.TermsOf.{AreTermsOf};
 ghost use Rattle.unit_flow.specs.TooLarge.{AreFitting, IsFirstTooLarge};
 
 use crate::body::main_body;
@@ -93,16 +96,21 @@ fn counted_units(
 }
 
 /// The units of a program, in the order of the text, with the terms that are given, which are those of the program, and with
-/// the header bits that it takes. The first unit that has more operators than `ops` is refused, with its number; the one
-/// other error is want of memory.
+/// the header bits that it takes. Symbols, step tables and numbers of cells are as later steps need them, and what a unit names
+/// as own is an element that its index is within. The first unit that has more operators than `ops` is refused, with its
+/// number; the one other error is want of memory.
 pub fn units(alloc: Global, checked: &Checked, terms: Terms, ops: u32) -> Result<Units, UnitError>
-    requires { terms.symbols ≡ symbols_of (seen_decls checked.now) }
+    requires { AreTermsOf (seen_decls checked.now) terms }
     ensures units { IfOk result (λ units. UnitsOf (seen_decls checked.now) (seen_units units)) }
     ensures terms { IfOk result (λ units. units.terms ≡ terms) }
+    ensures sound { IfOk result (λ units. SoundUnits (seen_units units)) }
+    ensures own { IfOk result (λ units. OwnLocations (seen_decls checked.now) (map seen_unit units.list)) }
     ensures fits { IfOk result (λ _. OpsFit (seen_decls checked.now) ops) }
     ensures refused { IfErr result (IsFirstTooLarge (units_of (seen_decls checked.now)) ops) }
 {
     let CountedUnits { list, bits } = counted_units(alloc, checked, terms.symbols.as_slice(), ops)?;
+    // A checked program is typed.
+    let _ = program(checked);
     let HeaderBits { fixed, each } = bits;
     Ok(Units {
         terms,

@@ -8,10 +8,10 @@ ghost use Rattle.unit_parts.specs.UnitFrom.{AreNeeds};
 ghost use Rattle.program_names.specs.FirstNamed.{entry_value};
 ghost use Rattle.unit_parts.specs.Called.{called};
 ghost use Rattle.unit_flow.specs.Callees.{IsSummaryOf, ShowsSummaryOf, seen_call};
-ghost use Rattle.unit_flow.specs.Remembered.{AreSummaries, Puts, summary_under};
+ghost use Rattle.unit_flow.specs.Remembered.{AreSummaries, Puts, PutsCall, summary_under};
 
 use crate::called::{Call, call_of, summary};
-use elastic_ast::{Decl, Local};
+use elastic_ast::{Action, Decl, Local, Table};
 use elx_bits::Name;
 use expr_types::Scope;
 use indexmap::IndexMap;
@@ -38,33 +38,18 @@ fn put<'a>(
     Ok(())
 }
 
-/// Adds the summary of the action of a name.
-fn add_action<'a>(
+/// Puts the summary of what is called under its name.
+fn add_called<'a>(
     alloc: Global,
     scope: &Scope<'a>,
-    known: &mut Summaries<'a>,
+    table: &mut IndexMap<&'a [u8], Summary<'a>>,
     name: &'a Name,
+    call: Call<'a>,
 ) -> Result<(), AllocError>
-    requires { AreSummaries (before_of scope.now) known.old }
-    ensures { OnOk result (AreSummaries (before_of scope.now) known.new) }
+    ensures { OnOk result (PutsCall (before_of scope.now) call.entry table.old.entries table.new.entries name.now) }
 {
-    let summary = summary(alloc, scope, Call::Action(name))?;
-    put(&mut known.actions, name, summary)?;
-    Ok(())
-}
-
-/// Adds the summary of the table of a name.
-fn add_table<'a>(
-    alloc: Global,
-    scope: &Scope<'a>,
-    known: &mut Summaries<'a>,
-    name: &'a Name,
-) -> Result<(), AllocError>
-    requires { AreSummaries (before_of scope.now) known.old }
-    ensures { OnOk result (AreSummaries (before_of scope.now) known.new) }
-{
-    let summary = summary(alloc, scope, Call::Table(name))?;
-    put(&mut known.tables, name, summary)?;
+    let summary = summary(alloc, scope, call)?;
+    put(table, name, summary)?;
     Ok(())
 }
 
@@ -79,8 +64,12 @@ fn add_local<'a>(
     ensures { OnOk result (AreSummaries (before_of scope.now) known.new) }
 {
     match local {
-        Local::Action(action) => add_action(alloc, scope, known, &action.name),
-        Local::Table(table) => add_table(alloc, scope, known, &table.name),
+        Local::Action(Action { name, .. }) => {
+            add_called(alloc, scope, &mut known.actions, name, Call::Action(name))
+        }
+        Local::Table(Table { name, .. }) => {
+            add_called(alloc, scope, &mut known.tables, name, Call::Table(name))
+        }
     }
 }
 

@@ -1,7 +1,11 @@
 pub mod BoundLaws
-pub mod HeaderLaws
-pub mod HeaderTypeLaws
-pub mod UnitLaws
-pub mod UseLaws
-pub mod Widths
+pub mod CountLaws
+pub mod InstanceTotals
+pub mod LoopLaws
+pub mod PlacedLaws
+pub mod RuleLaws
+pub mod SymbolListLaws
+pub mod Totals
+pub mod UseSteps
+pub mod WithinBounds
 pub mod WithinLaws

@@ -1,9 +1,12 @@
 -- The bounds of a program's sizes on a target, by the rules that give them.
 pub mod ProgramBounds
 pub mod Bound
--- The header bits as they are counted, and bounds as they are lowered row by row.
-pub mod HeaderUse
-pub mod HeaderTypes
+-- Bounds as they are lowered row by row.
 pub mod LoweredBounds
--- What a program without `main` lacks.
-pub mod NoUnits
+-- The bounds of sizes by the five rules over units.
+pub mod SizeRules
+pub mod UnitBounds
+pub mod Counts
+pub mod ProgramUnits
+pub mod SymbolLists
+pub mod LoopUses

@@ -1,9 +1,8 @@
 -- How bounds are lowered row by row, and what the last of them say; this project's own.
 use Rattle.std.specs.Prelude.{◌≡◌, ℕ, ◌<◌, List, length, slice_index, slice_index_or, Option, Some, None, IsSome, ℤ, pos}
-use Rattle.elastic_ast.specs.declared.flat.Terms.{Terms}
+use Rattle.elastic_ast.specs.declared.flat.Units.{Units}
 use Rattle.unroll_bound.specs.Bound.{lesser, most_times, bits_bound, bound_at}
 use Rattle.unroll_bound.specs.declared.bounds.Bounds.{Bounds}
-use Rattle.unroll_bound.specs.declared.header.HeaderUse.{HeaderUse}
 use Rattle.unroll_bound.specs.declared.bounds.Bounds.TheVariants as bounds
 
 -- each bound is the lesser of the one before and another
@@ -29,7 +28,7 @@ pub record AreBitsBounds (limit : ℕ) (bits : List ℕ) (found : List (Option �
 abbrev pub AreGathered : List (Option ℕ) → Bounds → Type 0
 AreGathered bounds = AreBounds (length bounds) (λ place. slice_index_or bounds place None)
 
--- these are the bounds that the rows of terms and the header bits give
-abbrev pub AreTermBounds : Terms → HeaderUse → ℕ → Bounds → Type 0
-AreTermBounds terms bits limit =
-    AreBounds (length terms.symbols) (bound_at terms.rows (λ place. slice_index bits.symbol_bits.items place) limit)
+-- these are the bounds that the rows of the terms of units and their header bits give
+abbrev pub AreUnitBounds : Units → ℕ → Bounds → Type 0
+AreUnitBounds units limit =
+    AreBounds (length units.terms.symbols) (bound_at units.terms.rows (slice_index units.symbol_bits) limit)

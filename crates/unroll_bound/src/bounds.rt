@@ -4,12 +4,11 @@ ghost use Rattle.std.specs.Prelude.{◌≡◌, ◌≤◌, ◌<◌, ◌-◌, leng
 ghost use Rattle.std.specs.List.{list_all};
 ghost use Rattle.size_terms.specs.Rows.{is_whole as is_whole_of, IsShort, AreShort};
 ghost use Rattle.unroll_bound.specs.Bound.{lesser as lesser_of, most_times, row_bound, rows_bound, bits_bound as bits_bound_of};
-ghost use Rattle.unroll_bound.specs.LoweredBounds.{AreLowered, AreBitsBounds, AreGathered, AreTermBounds, most_of_place};
+ghost use Rattle.unroll_bound.specs.LoweredBounds.{AreLowered, AreBitsBounds, AreGathered, AreUnitBounds, most_of_place};
 ghost use Rattle.unroll_bound.specs.ProgramBounds.{BoundsHold};
 ghost use Rattle.size_terms.specs.SumLimits.{most_right_side};
 
-use crate::header::HeaderUse;
-use elastic_ast::{Linear, Terms};
+use elastic_ast::{Linear, Units};
 use std::alloc::{AllocError, Global};
 
 /// The bounds of all sizes, or the first symbol that has none.
@@ -125,17 +124,12 @@ fn gathered(alloc: Global, bounds: &[Option<u64>]) -> Result<Bounds, AllocError>
 }
 
 /// The bound of each size: the least number that a row, or the header bits of a target, give.
-pub fn bounds_of(
-    alloc: Global,
-    terms: &Terms,
-    bits: &HeaderUse,
-    limit: u64,
-) -> Result<Bounds, AllocError>
-    requires sized { length bits.now.symbol_bits.items ≡ length terms.now.symbols }
-    requires short { AreShort terms.now }
-    ensures { IfOk result (AreTermBounds terms.now bits.now limit) }
+pub fn bounds_of(alloc: Global, units: &Units, limit: u64) -> Result<Bounds, AllocError>
+    requires sized { length units.now.symbol_bits ≡ length units.now.terms.symbols }
+    requires short { AreShort units.now.terms }
+    ensures { IfOk result (AreUnitBounds units.now limit) }
 {
-    let mut bounds = bits_bounds(alloc, bits.symbol_bits.as_slice(), limit)?;
-    lower_by_rows(bounds.as_mut_slice(), terms.rows.as_slice());
+    let mut bounds = bits_bounds(alloc, units.symbol_bits.as_slice(), limit)?;
+    lower_by_rows(bounds.as_mut_slice(), units.terms.rows.as_slice());
     gathered(alloc, bounds.as_slice())
 }

@@ -2,8 +2,19 @@
 #![tactic(auto)]
 
 mod bounds;
-mod header;
-mod header_types;
+mod cells;
+mod certain;
+mod counting;
+mod joining;
+mod law;
+mod loop_uses;
+mod rules;
 
 pub use bounds::{Bounds, bounds_of, feasible_sizes_have_bounds};
-pub use header::{HeaderUse, fits, header_use, no_units_without_main};
+pub use cells::lower_by_cells;
+pub use certain::{certain_symbols, surely};
+pub use counting::{keys_reached, relation_rows, turns_at};
+pub use joining::units_bound;
+pub use law::{alike_units_have_one_bound, instances_are_counted, sizes_are_within_bounds};
+pub use loop_uses::{LoopUse, uses_of_loops};
+pub use rules::{lesser, lower_by_rows, share};

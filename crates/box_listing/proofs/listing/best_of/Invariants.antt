@@ -5,5 +5,5 @@ use Rattle.box_listing.proofs.listing.best_of.Given as goal
 abbrev pub invariant-loop-number : goal.invariant-loop-number
 invariant-loop-number l = record {
   dense : length l.sizes.values ≡ length l.bounds;
-  best : IsBestOf l.terms l.bits l.limit l.bounds l.number l.best;
+  best : IsBestOf l.units l.limit l.bounds l.number l.best;
 }

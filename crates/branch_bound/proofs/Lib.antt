@@ -1,0 +1,6 @@
+pub mod BoxLaws
+pub mod PointLaws
+pub mod TightScan
+pub mod SplitLaws
+pub mod FollowsLaws
+pub mod SettledLaws

@@ -1,0 +1,12 @@
+use Rattle.branch_bound.specs.Lines.{IsBestKnown}
+use Rattle.branch_bound.proofs.FollowsLaws.{Keeps, work_left}
+use Rattle.branch_bound.proofs.searching.close.Given as goal
+
+abbrev pub invariant-places : goal.invariant-places
+invariant-places l = record {
+  keeps : Keeps l.ip l.known l.limit l.waiting l.lines l.splits;
+  best_known : IsBestKnown l.ip l.best l.known;
+}
+
+abbrev pub decreases-places : goal.decreases-places
+decreases-places l = work_left l.limit l.splits l.waiting

@@ -1,0 +1,246 @@
+//! What is written at a place: a leaf, a tightening, a split, or that it is left.
+
+ghost use Rattle.std.specs.Prelude.{◌≡◌, ◌≢◌, ◌≤◌, ◌⊎◌, length, ◌++◌, IfSome, IfNone, IfOk, OnOk};
+ghost use Rattle.int_program.specs.Boxes.{IsInside};
+ghost use Rattle.int_program.specs.Limits.{IsInLimits};
+ghost use Rattle.int_program.specs.Points.{IsBetter};
+ghost use Rattle.int_program.specs.Accepts.{goal_fault, split_fault};
+ghost use Rattle.int_program.specs.Fair.{NoRowLeaf, NoTightening, most_above};
+ghost use Rattle.int_program.specs.Places.{opened};
+ghost use Rattle.branch_bound.specs.Lines.{node_of, AtMost, IsBestKnown, IsStep, IsUnsplit, IsWritten, IsDecided, IsGrown, IsOpenPlace, IsSingle, IsSearchedThrough};
+
+use crate::boxes::open_children;
+use crate::line::Line;
+use crate::open::Open;
+use crate::testing::{closing_row, tightening, try_lowest};
+use elx_bits::Items;
+use int_program::{
+    Ip, IpBox, Node, Place, Point, fault_of_goal_leaf, fault_of_row_leaf, fault_of_split,
+    fault_of_tight, goal_most,
+};
+use std::alloc::{AllocError, Global};
+
+/// How many tightenings may stand directly above another node.
+const MOST_ABOVE: u32 = 100;
+
+/// What to try first at a place. It is only a hint: each is tested before it is written.
+#[derive(Clone, Copy, Debug)]
+pub(crate) enum Hint {
+    Nothing,
+    Tight { var: u32, row: u32 },
+    Row { row: u32 },
+    Split { var: u32, at: i128 },
+}
+
+/// The tightening, where it is accepted and has room above it.
+fn hinted_tight(ip: &Ip, place: &Place, var: u32, row: u32) -> Option<Node>
+    requires limits { IsInLimits ip.now }
+    requires open_place { IsOpenPlace ip.now place.now }
+    ensures { IfSome result (IsUnsplit ip.now None place.now) }
+{
+    if place.above < MOST_ABOVE && fault_of_tight(ip, &place.within, var, row).is_none() {
+        Some(Node::Tight { var, row })
+    } else {
+        None
+    }
+}
+
+/// The row leaf, where it is accepted.
+fn hinted_row(ip: &Ip, place: &Place, row: u32) -> Option<Node>
+    requires limits { IsInLimits ip.now }
+    requires open_place { IsOpenPlace ip.now place.now }
+    ensures { IfSome result (IsUnsplit ip.now None place.now) }
+{
+    if fault_of_row_leaf(ip, &place.within, row).is_none() {
+        Some(Node::RowLeaf { row })
+    } else {
+        None
+    }
+}
+
+/// What the hint names, where it may be written.
+fn hinted(ip: &Ip, place: &Place, hint: Hint) -> Option<Node>
+    requires limits { IsInLimits ip.now }
+    requires open_place { IsOpenPlace ip.now place.now }
+    ensures { IfSome result (IsUnsplit ip.now None place.now) }
+{
+    match hint {
+        Hint::Tight { var, row } => hinted_tight(ip, place, var, row),
+        Hint::Row { row } => hinted_row(ip, place, row),
+        Hint::Nothing | Hint::Split { var: _, at: _ } => None,
+    }
+}
+
+/// The leaf that closes the place.
+fn leaf(ip: &Ip, known: Option<i128>, place: &Place) -> Option<Node>
+    requires limits { IsInLimits ip.now }
+    requires open_place { IsOpenPlace ip.now place.now }
+    ensures found { IfSome result (IsUnsplit ip.now known place.now) }
+    ensures no_goal { IfNone result (goal_fault ip.now place.now.within known ≢ None) }
+    ensures no_row { IfNone result (NoRowLeaf ip.now place.now.within) }
+{
+    if fault_of_goal_leaf(ip, &place.within, known).is_none() {
+        return Some(Node::GoalLeaf);
+    }
+    match closing_row(ip, &place.within) {
+        Some(row) => Some(Node::RowLeaf { row }),
+        None => None,
+    }
+}
+
+/// The first tightening that may be written at the place.
+fn first_tight(ip: &Ip, place: &Place) -> Option<Node>
+    requires limits { IsInLimits ip.now }
+    requires open_place { IsOpenPlace ip.now place.now }
+    ensures found { IfSome result (IsUnsplit ip.now None place.now) }
+    ensures none { IfNone result (NoTightening ip.now place.now.within ⊎ (most_above ≤ place.now.above)) }
+{
+    if place.above >= MOST_ABOVE {
+        return None;
+    }
+    match tightening(ip, &place.within) {
+        Some((var, row)) => Some(Node::Tight { var, row }),
+        None => None,
+    }
+}
+
+/// What is written at the place without a split.
+fn unsplit(ip: &Ip, known: Option<i128>, place: &Place) -> Option<Node>
+    requires limits { IsInLimits ip.now }
+    requires open_place { IsOpenPlace ip.now place.now }
+    ensures found { IfSome result (IsUnsplit ip.now known place.now) }
+    ensures none { IfNone result (IsSearchedThrough ip.now known place.now) }
+{
+    match leaf(ip, known, place) {
+        Some(node) => Some(node),
+        None => first_tight(ip, place),
+    }
+}
+
+/// The first variable with more than one number left, to be split at its low end.
+fn first_split(ip: &Ip, within: &IpBox) -> Option<(u32, i128)>
+    requires limits { IsInLimits ip.now }
+    requires inside { IsInside ip.now within.now }
+    ensures found { IfSome result (λ s. split_fault (length ip.now.tops) within.now s.0 s.1 ≡ None) }
+    ensures none { IfNone result (IsSingle within.now) }
+{
+    let low = within.low.as_slice();
+    'variables: for i in 0..low.len() {
+        let at = low[i];
+        if fault_of_split(ip, within, i as u32, at).is_none() {
+            return Some((i as u32, at));
+        }
+    }
+    None
+}
+
+/// Where the box is split: as the hint says, if that may be.
+fn split_place(ip: &Ip, hint: Hint, within: &IpBox) -> Option<(u32, i128)>
+    requires limits { IsInLimits ip.now }
+    requires inside { IsInside ip.now within.now }
+    ensures found { IfSome result (λ s. split_fault (length ip.now.tops) within.now s.0 s.1 ≡ None) }
+    ensures none { IfNone result (IsSingle within.now) }
+{
+    match hint {
+        Hint::Split { var, at } => {
+            if fault_of_split(ip, within, var, at).is_none() {
+                Some((var, at))
+            } else {
+                first_split(ip, within)
+            }
+        }
+        _ => first_split(ip, within),
+    }
+}
+
+/// Splits the place, or leaves it where no split is allowed.
+fn split_or_leave(ip: &Ip, known: Option<i128>, may_split: bool, hint: Hint, place: &Place) -> Line
+    requires limits { IsInLimits ip.now }
+    requires open_place { IsOpenPlace ip.now place.now }
+    requires through { IsSearchedThrough ip.now known place.now }
+    requires tried { IsBetter ip.now known place.now.within.low → ⊥ }
+    ensures { IsDecided ip.now known may_split place.now result }
+{
+    let _ = known;
+    if !may_split {
+        return Line::Left {
+            most: goal_most(ip, &place.within),
+        };
+    }
+    match split_place(ip, hint, &place.within) {
+        Some((var, at)) => Line::Done(Node::Split { var, at }),
+        None => unreachable!(),
+    }
+}
+
+/// What is written at the place. Where the hint doesn't tell, the lowest point is tried first.
+fn decided(
+    alloc: Global,
+    ip: &Ip,
+    known: &mut Option<i128>,
+    best: &mut Option<Point>,
+    may_split: bool,
+    hint: Hint,
+    place: &Place,
+) -> Result<Line, AllocError>
+    requires limits { IsInLimits ip.now }
+    requires open_place { IsOpenPlace ip.now place.now }
+    requires best_known { IsBestKnown ip.now best.old known.old }
+    ensures { IfOk result (IsStep ip.now known.old known.new best.new may_split place.now) }
+{
+    if let Some(node) = hinted(ip, place, hint) {
+        return Ok(Line::Done(node));
+    }
+    let value = try_lowest(alloc, ip, &place.within, *known, best)?;
+    *known = value;
+    match unsplit(ip, value, place) {
+        Some(node) => Ok(Line::Done(node)),
+        None => Ok(split_or_leave(ip, value, may_split, hint, place)),
+    }
+}
+
+/// Opens what the line opens at its place.
+fn open_line(
+    alloc: Global,
+    ip: &Ip,
+    known: Option<i128>,
+    place: Place,
+    line: &Line,
+    waiting: &mut Open,
+) -> Result<(), AllocError>
+    requires limits { IsInLimits ip.now }
+    requires open_place { IsOpenPlace ip.now place }
+    requires written { IsWritten ip.now known place line.now }
+    ensures { OnOk result (waiting.new ≡ opened ip.now place (node_of line.now) ++ waiting.old) }
+{
+    match line {
+        Line::Done(node) => open_children(alloc, ip, known, place, node, waiting),
+        Line::Left { most: _ } => Ok(()),
+    }
+}
+
+/// Writes one line at the place, and answers whether it is a split.
+pub(crate) fn write_line(
+    alloc: Global,
+    ip: &Ip,
+    known: &mut Option<i128>,
+    best: &mut Option<Point>,
+    may_split: bool,
+    hint: Hint,
+    place: Place,
+    waiting: &mut Open,
+    lines: &mut Items<Line>,
+) -> Result<bool, AllocError>
+    requires limits { IsInLimits ip.now }
+    requires open_place { IsOpenPlace ip.now place }
+    requires best_known { IsBestKnown ip.now best.old known.old }
+    ensures at_most { OnOk result (AtMost known.old known.new) }
+    ensures best { OnOk result (IsBestKnown ip.now best.new known.new) }
+    ensures grown { IfOk result (IsGrown ip.now known.new may_split place waiting.old waiting.new lines.old lines.new) }
+{
+    let line = decided(alloc, ip, known, best, may_split, hint, &place)?;
+    open_line(alloc, ip, *known, place, &line, waiting)?;
+    let split = line.is_split();
+    lines.push(line)?;
+    Ok(split)
+}
