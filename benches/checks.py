@@ -8,8 +8,8 @@
 
 Each source stands twice, the second time with twice as much in it. A line says how long the source is, how many seconds
 the run took, its greatest memory in megabytes, how many times the seconds of the first one the second took, and what
-was printed. A source with `main` is refused as not supported yet behind the check, which is what is timed; one of
-symbols alone is refused behind the bounds of its symbols. Linux and Python 3 are all that is needed; the program is
+was printed. A source with `main` is refused as not supported yet behind the check and its units, or for a
+unit with too many operators; one of symbols alone is refused behind the bounds of its symbols. Linux and Python 3 are all that is needed; the program is
 built by ./p4all (see README.md).
 """
 import argparse
