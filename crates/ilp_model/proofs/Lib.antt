@@ -21,4 +21,5 @@ pub mod RowsRise
 pub mod Light
 pub mod CountLaws
 pub mod LimitLaws
+pub mod KeyLaws
 pub mod Examples

@@ -6,6 +6,9 @@ pub mod NamedRows
 pub mod Rows
 pub mod Objective
 pub mod IpOf
+pub mod Written
+pub mod SeenKeys
+pub mod WrittenInstances
 pub mod PairOf
 pub mod Agreement
 pub mod Optimum
