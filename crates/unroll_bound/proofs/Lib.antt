@@ -9,3 +9,4 @@ pub mod Totals
 pub mod UseSteps
 pub mod WithinBounds
 pub mod WithinLaws
+pub mod CountSteps

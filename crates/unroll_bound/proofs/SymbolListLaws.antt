@@ -1,5 +1,5 @@
 -- Lists with one entry for each symbol that are changed, at one place or at each.
-use Rattle.std.proofs.Common.{◌≡◌, ◌≢◌, ℕ, zero, suc, ◌+◌, ◌-◌, ◌<◌, ◌≤◌, List, [], ◌∷◌, drop, length, get_or, refl, sym, ap, ◌∙◌, subst, arith, ⊎_elim, below_more, get_or-set_other, get_or-set_same}
+use Rattle.std.proofs.Common.{◌≡◌, ◌≢◌, ℕ, zero, suc, ◌+◌, ◌-◌, ◌<◌, ◌≤◌, List, [], ◌∷◌, ◌++◌, take, drop, length, get_or, refl, sym, ap, ◌∙◌, subst, arith, ⊎_elim, below_more, get_or-set_other, get_or-set_same}
 use Rattle.std.specs.Prelude.{replicate}
 use Rattle.std.proofs.Math.ListN.{set, length-set}
 use Rattle.std.proofs.lemmas.Bool.{cases_eq}
@@ -89,3 +89,10 @@ none_behind symbols of xs list h = subst (λ z. IsListOf symbols (of z) list) (s
 
 pub none_left : {A B : Type 0} (symbols : ℕ) (of : List B → ℕ → A) (xs : List B) (i : ℕ) (list : List A) → i ≡ 0 → IsListOf symbols (of (drop i xs)) list → IsListOf symbols (of xs) list
 none_left symbols of xs i list e h = subst (λ n. IsListOf symbols (of (drop n xs)) list) e h
+
+-- a list in front of what is left of another
+pub take_front : {A : Type 0} (xs ys : List A) (n : ℕ) → n ≡ length xs → take n (xs ++ ys) ≡ xs
+take_front [] ys zero e = refl
+take_front [] ys (suc n) e = absurd (omega (arith, e))
+take_front (x ∷ xs) ys zero e = absurd (omega (arith, e))
+take_front (x ∷ xs) ys (suc n) e = ap (λ z. x ∷ z) (take_front xs ys n (omega (arith, e)))
