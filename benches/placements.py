@@ -3,13 +3,13 @@
 
     benches/placements.py              makes the sources and the placements, runs the built program on each
     benches/placements.py --only WORD  only those whose name has this word in it
-    benches/placements.py --program P  with the program P in place of crates/unit_vectors/out/unit_vectors
+    benches/placements.py --program P  with the program P in place of crates/worked_programs/out/worked_programs
 
 The program reads a source, cuts it into units twice (once for any number of operators, once for those of the target), prints
 them, and decides the placement. A line says how many units and instances there are, how long the source is, how many seconds of
 the processor the run took, its greatest memory in megabytes, and what was decided. In a placement no instance stands in an
 earlier stage than a later instance, so each pair is looked at. Linux and Python 3 are all that is needed; the program is built by
-`rt run` in crates/unit_vectors.
+`rt run` in crates/worked_programs.
 """
 import argparse
 import os
@@ -18,7 +18,7 @@ import tempfile
 
 from checks import ROOT, named, pipeline, run
 
-PROGRAM = os.path.join(ROOT, "crates", "unit_vectors", "out", "unit_vectors")
+PROGRAM = os.path.join(ROOT, "crates", "worked_programs", "out", "worked_programs")
 STAGES = 64
 TARGET = f"""stages = {STAGES}
 memory_bits = 1000000000
@@ -120,7 +120,7 @@ def main():
     reader.add_argument("--program", default=PROGRAM, metavar="P", help="the program to run")
     given = reader.parse_args()
     if not os.access(given.program, os.X_OK):
-        sys.exit("The program isn't built yet: `rt run` in crates/unit_vectors builds it.")
+        sys.exit("The program isn't built yet: `rt run` in crates/worked_programs builds it.")
     print(f"{'source':15} {'units':>6} {'instances':>9} {'bytes':>8} {'seconds':>8} {'MB':>6}  decided")
     with tempfile.TemporaryDirectory() as folder:
         for name, units, make in SOURCES:

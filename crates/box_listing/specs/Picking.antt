@@ -10,4 +10,5 @@ abbrev pub IsPicked : Units → ℕ → List ℕ → Choice → Type 0
 IsPicked units limit bounds (choice.Best sizes worth) = (points_in bounds ≤ most_points) × ((number : ℕ) × (sizes.values ≡ point_at number bounds) × IsBestAt units limit bounds (points_in bounds) number worth)
 IsPicked units limit bounds choice.Infeasible = (points_in bounds ≤ most_points) × ((number : ℕ) → number < points_in bounds → IsOpen units limit (point_at number bounds) → ⊥)
 IsPicked units limit bounds (choice.Unbounded symbol) = ⊥
+IsPicked units limit bounds (choice.Large what count) = ⊥
 IsPicked units limit bounds choice.NotYet = most_points < points_in bounds

@@ -3,8 +3,10 @@
 ghost use Rattle.std.specs.Prelude.{◌≡◌, ◌≤◌, ◌<◌, ◌-◌, ◌^◌, length, IfOk};
 ghost use Rattle.elastic_ast.specs.Seen.{seen_decls};
 ghost use Rattle.elastic_ast.specs.Typing.Asked.{DeclKind, has};
+ghost use Rattle.elastic_ast.specs.Units.SeenUnits.{seen_units};
+ghost use Rattle.target_desc.specs.InRange.{IsInRange};
 ghost use Rattle.size_terms.specs.Rows.{AreShort};
-ghost use Rattle.box_listing.specs.Choice.{AreUnitsFor, IsChoice};
+ghost use Rattle.box_listing.specs.Choice.{AreKnownUnits, IsChoice, IsPrintable};
 ghost use Rattle.box_listing.specs.NoUnits.{NoMainNoUnits};
 ghost use Rattle.box_listing.specs.Picking.{IsPicked};
 
@@ -12,7 +14,7 @@ use crate::listing::{best_of, count_points, point, zero_sizes};
 use elastic_ast::{Decl, Sizes, Units};
 use std::alloc::{AllocError, Global};
 use target_desc::Target;
-use unroll_bound::{Bounds, bounds_of};
+use unroll_bound::{BoundError, What, bounds};
 use width_check::{Checked, program};
 
 /// What becomes of a program on a target.
@@ -23,7 +25,9 @@ pub enum Choice {
     /// No sizes are feasible.
     Infeasible,
     /// No rule bounds the size of this symbol, which is the first such. Symbols are counted from 0.
-    Unbounded { symbol: usize },
+    Unbounded { symbol: u32 },
+    /// A bound, or how many instances, variables or rows the bounds lead to, is more than is taken.
+    Large { what: What, count: u128 },
     /// What is chosen isn't built yet: the program declares `main`, or more than a million sizes are within the bounds.
     NotYet,
 }
@@ -70,9 +74,8 @@ fn declares_main(checked: &Checked) -> bool
     false
 }
 
-/// The best sizes of a program on a target: feasible ones of the greatest utility. They are looked for within the bounds that
-/// the rows and the header bits give, beyond which nothing is feasible. Those of a program that declares `main` aren't looked
-/// for yet.
+/// The best sizes of a program on a target: feasible ones of the greatest utility. They are looked for within the bounds,
+/// beyond which nothing is feasible. Those of a program that declares `main` aren't looked for yet.
 ///
 /// `units` are those that `unit_flow::units` gives of the program. The one error is want of memory.
 pub fn choose(
@@ -81,15 +84,19 @@ pub fn choose(
     units: &Units,
     target: &Target,
 ) -> Result<Choice, AllocError>
-    requires { AreUnitsFor (seen_decls checked.now) units.now }
-    ensures { IfOk result (IsChoice (seen_decls checked.now) target.now) }
+    requires units { AreKnownUnits (seen_decls checked.now) (seen_units units.now) }
+    requires in_range { IsInRange target.now }
+    ensures choice { IfOk result (IsChoice (seen_decls checked.now) target.now) }
+    ensures printable { IfOk result IsPrintable }
 {
+    let list = match bounds(alloc, units, target) {
+        Ok(list) => list,
+        Err(BoundError::Unbounded { symbol }) => return Ok(Choice::Unbounded { symbol }),
+        Err(BoundError::TooLarge { what, count }) => return Ok(Choice::Large { what, count }),
+        Err(BoundError::Memory) => return Err(AllocError),
+    };
     if declares_main(checked) {
         return Ok(Choice::NotYet);
     }
-    let limit = target.header_bits;
-    match bounds_of(alloc, units, limit)? {
-        Bounds::All(bounds) => best_within(alloc, units, limit, bounds.as_slice()),
-        Bounds::Missing { symbol } => Ok(Choice::Unbounded { symbol }),
-    }
+    best_within(alloc, units, target.header_bits, list.most.as_slice())
 }

@@ -13,11 +13,12 @@ use Rattle.ilp_model.specs.Variables.{symbol_count}
 use Rattle.ilp_model.specs.PairOf.{sizes_of, placement_of}
 use Rattle.ilp_model.specs.Agreement.{AreWithin}
 use Rattle.place_check.proofs.UnitLaws.{best_alike, infeasible_alike}
-use Rattle.ilp_model.specs.Optimum.{AreBoundsOf, BestPointsAreBest, NoPointIsInfeasible, BestPointsAreBestOfProgram, NoPointIsInfeasibleProgram}
+use Rattle.unroll_bound.specs.BoundAnswers.{HaveBounds}
+use Rattle.ilp_model.specs.Optimum.{BestPointsAreBest, NoPointIsInfeasible, BestPointsAreBestOfProgram, NoPointIsInfeasibleProgram}
 use Rattle.ilp_model.proofs.Lists.{past}
 use Rattle.ilp_model.proofs.PairsAndPoints.{pairs_are_points, points_are_pairs}
 
-within : (units : PlainUnits) (target : Target) (bounds sizes : List ℕ) (placement : List At) → SoundUnits units → AreBoundsOf units target bounds → FeasibleUnits units target sizes placement → AreWithin (nth_size bounds) sizes
+within : (units : PlainUnits) (target : Target) (bounds sizes : List ℕ) (placement : List At) → SoundUnits units → HaveBounds units target bounds → FeasibleUnits units target sizes placement → AreWithin (nth_size bounds) sizes
 within units target bounds sizes placement sound are f s =
     ⊎_elim (λ lt. sizes_within units target sizes placement sound f s (nth_size bounds s) (are.each s lt))
     (λ le. (let e : nth_size sizes s ≡ 0 = past sizes s 0 (let n = f.sized in omega (arith, n, le)) in omega (arith, e)))

@@ -106,7 +106,7 @@ total_pairs {A} f x xs = go xs
     go [] = omega arith
     go (y ∷ ys) = omega (arith, go ys)
 
-orders_length : (m n k : ℕ) (ps : List Instance) → total (λ (w : Candidate × Candidate). relation_rows m (order_of w.0.instance w.1.instance)) (each_pair (candidates_from n k ps)) ≡ counts.order_rows m ps
+orders_length : (m n k : ℕ) (ps : List Instance) → total (λ (w : Candidate × Candidate). relation_rows m (order_of w.0.instance w.1.instance)) (each_pair (candidates_from n k ps)) ≡ counts.order_row_count m ps
 orders_length m n k [] = refl
 orders_length m n k (p ∷ ps) =
     let now : Candidate = record { place = n; rank = k; instance = p } in
@@ -134,13 +134,13 @@ count_times {A} test c (x ∷ xs) = go (test x) (count_times test c xs)
     go false e = omega (arith, e)
 
 module _ (units : PlainUnits) (target : Target) (b : ℕ → ℕ) (tables : AllByRecursion (λ t. IsStepTable t.pairs) units.terms.steps) where
-  all_candidates_length : length (candidates units b) ≡ instance_count units.list b
+  pub all_candidates_length : length (candidates units b) ≡ instance_count units.list b
   all_candidates_length = candidates_length 0 0 (instances units.list b) ∙ (instances_counted units.list b).all
 
-  all_symbolic_length : length (symbolic (candidates units b)) ≡ symbolic_count units.list b
+  pub all_symbolic_length : length (symbolic (candidates units b)) ≡ symbolic_count units.list b
   all_symbolic_length = symbolic_length 0 0 (instances units.list b) ∙ (instances_counted units.list b).symbolic
 
-  all_keys_length : length (step_keys units.terms b) ≡ key_count units.terms.steps b
+  pub all_keys_length : length (step_keys units.terms b) ≡ key_count units.terms.steps b
   all_keys_length = keys_length b 0 units.terms.steps tables ∙ sym (sum_is_total (keys_reached b) units.terms.steps)
 
   variables_length : length (variables units target b) ≡ variable_count units target b
@@ -170,7 +170,7 @@ module _ (units : PlainUnits) (target : Target) (b : ℕ → ℕ) (tables : AllB
         held_times,
       )
 
-  loop_length : (s : ℕ) → length (loop_rows b s) ≡ counts.loop_rows b s
+  loop_length : (s : ℕ) → length (loop_rows b s) ≡ counts.loop_row_count b s
   loop_length s = omega (arith, length-map (numbers_below (b s - 1)) (falling_row s), length-numbers (b s - 1))
 
   rows_length : length (rows units target b) ≡ row_count units target b
@@ -192,8 +192,8 @@ module _ (units : PlainUnits) (target : Target) (b : ℕ → ℕ) (tables : AllB
         length-append stands (rows_from_cells units target b),
         length-append cells (rows_from_use units target b),
         length-append uses (rows_from_order units target b),
-        length_each (loop_rows b) (counts.loop_rows b) loop_length (looped_symbols units),
-        sum_is_total (counts.loop_rows b) (looped_symbols units),
+        length_each (loop_rows b) (counts.loop_row_count b) loop_length (looped_symbols units),
+        sum_is_total (counts.loop_row_count b) (looped_symbols units),
         length-flat_map_even (key_rows b) 2 (λ j. refl) (step_keys units.terms b),
         all_keys_length,
         length-flat_map_even (stand_rows target.stages) 2 (λ p. refl) (candidates units b),

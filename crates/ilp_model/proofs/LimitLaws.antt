@@ -34,7 +34,8 @@ use Rattle.ilp_model.specs.NamedRows.{NamedPart}
 use Rattle.ilp_model.specs.Rows.{size_parts, rows}
 use Rattle.ilp_model.specs.Objective.{rise_of, objective, first_value, first_values, constant}
 use Rattle.ilp_model.specs.IpOf.{has_coefficient, part_of, parts_of, row_of, ip_of}
-use Rattle.ilp_model.specs.InLimits.{FitCells, FitsUnit, FitTypes, AreModest, greatest_bound, ProgramsAreInLimits}
+use Rattle.unroll_bound.specs.BoundAnswers.{most_bound, AreBoundsWithin}
+use Rattle.ilp_model.specs.InLimits.{FitCells, FitsUnit, FitTypes, ProgramsAreInLimits}
 use Rattle.unroll_bound.proofs.Totals.{each_more, each_two, each_any, each_append, each_mapped}
 use Rattle.ilp_model.proofs.Places.{at_get, at_map}
 use Rattle.ilp_model.proofs.Known.{IsVar, KnowsParts, Knows, rows_known, objective_known}
@@ -141,19 +142,19 @@ header_times a u header (suc w) bound e =
     let more : max bound 1 ≤ bound + 1 = omega arith in
     omega (arith, most, mul-le-mul_left (suc w) le, mul-le-mul_left (suc w) more)
 
-module _ (units : PlainUnits) (target : Target) (bounds : List ℕ) (sound : SoundUnits units) (fit : FitTypes units) (range : IsInRange target) (modest : AreModest units target bounds) where
+module _ (units : PlainUnits) (target : Target) (bounds : List ℕ) (sound : SoundUnits units) (fit : FitTypes units) (range : IsInRange target) (modest : AreBoundsWithin units target bounds) where
   abbrev b : ℕ → ℕ
   b = nth_size bounds
 
-  bound_small : (s : ℕ) → b s ≤ greatest_bound
+  bound_small : (s : ℕ) → b s ≤ most_bound
   bound_small s = ⊎_elim (λ lt. modest.small s 0 lt) (λ le. (let e : b s ≡ 0 = past bounds s 0 le in omega (arith, e))) (cases_lt s (length bounds))
 
-  top_small : (s : ℕ) → max (b s) 1 ≤ greatest_bound
+  top_small : (s : ℕ) → max (b s) 1 ≤ most_bound
   top_small s = omega (arith, bound_small s)
 
   by_light : (by : List ℤ) (s : ℕ) → AllByRecursion (λ a. unsigned_abs a ≤ most_bulk) by → AreLight b heavy (size_parts s by)
   by_light [] s h = tt
-  by_light (a ∷ by) s h = (omega (arith, both_le (unsigned_abs a) (max (b s) 1) most_bulk greatest_bound h.0 (top_small s)), by_light by (s + 1) h.1)
+  by_light (a ∷ by) s h = (omega (arith, both_le (unsigned_abs a) (max (b s) 1) most_bulk most_bound h.0 (top_small s)), by_light by (s + 1) h.1)
 
   bits_light : (ws : List ℕ) (s : ℕ) → ((k : ℕ) → k < length ws → get_or ws k 0 * max (b (s + k)) 1 ≤ heavy) → AreLight b heavy (size_parts s (map pos ws))
   bits_light [] s h = tt

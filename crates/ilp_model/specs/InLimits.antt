@@ -1,6 +1,6 @@
 -- That the integer program of units is within the limits of integer programs, and how many variables and rows it has; this project's
 -- own.
-use Rattle.std.specs.Prelude.{◌≡◌, ℕ, ◌^◌, ◌<◌, ◌≤◌, List, length, All, Option, Some, None}
+use Rattle.std.specs.Prelude.{◌≡◌, ℕ, ◌^◌, ◌<◌, List, length, All, Option, Some, None}
 use Rattle.elastic_ast.specs.declared.flat.Cells.{Cells}
 use Rattle.elastic_ast.specs.declared.flat.Cells.TheVariants as cells
 use Rattle.elastic_ast.specs.Units.PlainUnits.{PlainUnit, PlainUnits}
@@ -8,10 +8,10 @@ use Rattle.elastic_ast.specs.Units.Instances.{nth_size}
 use Rattle.target_desc.specs.declared.target.Target.{Target}
 use Rattle.target_desc.specs.InRange.{IsInRange}
 use Rattle.unit_flow.specs.SoundUnits.{SoundUnits}
+use Rattle.unroll_bound.specs.BoundAnswers.{AreBoundsWithin}
 use Rattle.unroll_bound.specs.Counts.{variable_count, row_count}
-use Rattle.int_program.specs.Limits.{most_variables, most_rows, IsInLimits}
+use Rattle.int_program.specs.Limits.{IsInLimits}
 use Rattle.ilp_model.specs.IpOf.{ip_of}
-use Rattle.ilp_model.specs.Optimum.{AreBoundsOf}
 
 -- a number of cells is one of 32 bits
 abbrev pub FitCells : Option Cells → Type 0
@@ -33,22 +33,11 @@ pub record FitTypes (units : PlainUnits) : Type 0 where
   pub fixed_bits : units.fixed_bits < 2 ^ 64
   pub symbol_bits : All (λ bits. bits < 2 ^ 64) units.symbol_bits
 
--- the greatest bound
-abbrev pub greatest_bound : ℕ
-greatest_bound = 1000000000
-
--- the bounds of the rules, none above the greatest, and no more variables and rows than a program may have
-pub record AreModest (units : PlainUnits) (target : Target) (bounds : List ℕ) : Type 0 where
-  pub found : AreBoundsOf units target bounds
-  pub small : All (λ bound. bound ≤ greatest_bound) bounds
-  pub variables : variable_count units target (nth_size bounds) ≤ most_variables
-  pub rows : row_count units target (nth_size bounds) ≤ most_rows
-
--- so the integer program is within the limits
+-- within the numbers of bounds, the integer program is within the limits
 abbrev pub ProgramsAreInLimits : Type 0
 ProgramsAreInLimits =
     (units : PlainUnits) (target : Target) (bounds : List ℕ)
-    → SoundUnits units → FitTypes units → IsInRange target → AreModest units target bounds
+    → SoundUnits units → FitTypes units → IsInRange target → AreBoundsWithin units target bounds
     → IsInLimits (ip_of units target (nth_size bounds))
 
 -- the integer program has as many variables and rows as are counted

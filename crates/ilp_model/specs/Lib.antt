@@ -1,5 +1,6 @@
 -- The integer program of units on a target, over named variables and by their numbers, and the sizes and placements that its points give.
 pub mod Candidates
+pub mod ListedCandidates
 pub mod StepKeys
 pub mod Variables
 pub mod NamedRows
@@ -8,7 +9,11 @@ pub mod Objective
 pub mod IpOf
 pub mod Written
 pub mod SeenKeys
+pub mod Marks
+pub mod WrittenTops
 pub mod WrittenInstances
+pub mod WrittenGroups
+pub mod Numbers
 pub mod PairOf
 pub mod Agreement
 pub mod Optimum

@@ -1,5 +1,5 @@
 -- What the integer program within the bounds of units says of all sizes and placements; this project's own.
-use Rattle.std.specs.Prelude.{◌≡◌, ℕ, ℤ, ◌<◌, ◌≤ℤ◌, List, length, Some}
+use Rattle.std.specs.Prelude.{ℕ, ℤ, ◌≤ℤ◌, List}
 use Rattle.elastic_ast.specs.Tree.{PlainDecl}
 use Rattle.elastic_ast.specs.Units.PlainUnits.{PlainUnits}
 use Rattle.elastic_ast.specs.Units.Instances.{nth_size}
@@ -7,16 +7,10 @@ use Rattle.target_desc.specs.declared.target.Target.{Target}
 use Rattle.dep_graph.specs.Optimum.{Best, Infeasible}
 use Rattle.place_check.specs.OfUnits.{AreUnitsOf, BestUnits, InfeasibleUnits}
 use Rattle.unit_flow.specs.SoundUnits.{SoundUnits}
-use Rattle.unroll_bound.specs.UnitBounds.{bound_of_units}
+use Rattle.unroll_bound.specs.BoundAnswers.{HaveBounds}
 use Rattle.int_program.specs.Points.{IsPoint, value_of}
-use Rattle.ilp_model.specs.Variables.{symbol_count}
 use Rattle.ilp_model.specs.IpOf.{ip_of}
 use Rattle.ilp_model.specs.PairOf.{sizes_of, placement_of}
-
--- there is one bound a symbol, the one that the rules give
-pub record AreBoundsOf (units : PlainUnits) (target : Target) (bounds : List ℕ) : Type 0 where
-  pub dense : length bounds ≡ symbol_count units
-  pub each : (symbol : ℕ) → symbol < symbol_count units → bound_of_units units target symbol ≡ Some (nth_size bounds symbol)
 
 -- a point of the integer program, and no point has a greater value
 pub record IsBestPoint (units : PlainUnits) (target : Target) (bounds : List ℕ) (point : List ℤ) : Type 0 where
@@ -33,14 +27,14 @@ HasNoPoint units target bounds = (point : List ℤ) → IsPoint (ip_of units tar
 abbrev pub BestPointsAreBest : Type 0
 BestPointsAreBest =
     (units : PlainUnits) (target : Target) (bounds : List ℕ) (point : List ℤ)
-    → SoundUnits units → AreBoundsOf units target bounds → IsBestPoint units target bounds point
+    → SoundUnits units → HaveBounds units target bounds → IsBestPoint units target bounds point
     → BestUnits units target (sizes_of units point) (placement_of units target (nth_size bounds) point)
 
 -- where there is no point, no sizes and placement are feasible
 abbrev pub NoPointIsInfeasible : Type 0
 NoPointIsInfeasible =
     (units : PlainUnits) (target : Target) (bounds : List ℕ)
-    → SoundUnits units → AreBoundsOf units target bounds
+    → SoundUnits units → HaveBounds units target bounds
     → HasNoPoint units target bounds
     → InfeasibleUnits units target
 
@@ -48,11 +42,11 @@ NoPointIsInfeasible =
 abbrev pub BestPointsAreBestOfProgram : Type 0
 BestPointsAreBestOfProgram =
     (decls : List PlainDecl) (units : PlainUnits) (target : Target) (bounds : List ℕ) (point : List ℤ)
-    → AreUnitsOf decls units → SoundUnits units → AreBoundsOf units target bounds → IsBestPoint units target bounds point
+    → AreUnitsOf decls units → SoundUnits units → HaveBounds units target bounds → IsBestPoint units target bounds point
     → Best decls target (sizes_of units point) (placement_of units target (nth_size bounds) point)
 
 abbrev pub NoPointIsInfeasibleProgram : Type 0
 NoPointIsInfeasibleProgram =
     (decls : List PlainDecl) (units : PlainUnits) (target : Target) (bounds : List ℕ)
-    → AreUnitsOf decls units → SoundUnits units → AreBoundsOf units target bounds → HasNoPoint units target bounds
+    → AreUnitsOf decls units → SoundUnits units → HaveBounds units target bounds → HasNoPoint units target bounds
     → Infeasible decls target

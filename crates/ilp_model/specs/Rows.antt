@@ -154,3 +154,11 @@ rows_from_ones units target bounds = one_rows units ++ rows_from_header units ta
 -- the rows, in order
 abbrev pub rows : PlainUnits → Target → (ℕ → ℕ) → List NamedRow
 rows units target bounds = term_rows units ++ rows_from_ones units target bounds
+
+-- those of sizes, loops and keys, which come before those of instances
+abbrev pub size_groups : PlainUnits → Target → (ℕ → ℕ) → List NamedRow
+size_groups units target bounds =
+    term_rows units
+    ++ (one_rows units
+    ++ (header_row units target
+    ∷ (flat_map (loop_rows bounds) (looped_symbols units) ++ flat_map (key_rows bounds) (step_keys units.terms bounds))))

@@ -1,12 +1,10 @@
 -- The parts and rows that are written of variables by their numbers, without parts of coefficient 0; this project's own.
-use Rattle.std.specs.Prelude.{ℕ, ℤ, pos, neg_ℤ, ◌+◌, ◌-◌, ◌-ℤ◌, List, [], ◌∷◌, ◌++◌, if◌then◌else◌}
+use Rattle.std.specs.Prelude.{ℕ, ℤ, pos, neg_ℤ, ◌+◌, ◌-◌, ◌-ℤ◌, Bool, List, [], ◌∷◌, ◌++◌, if◌then◌else◌}
 use Rattle.std.specs.Ordering.{int_eq}
 use Rattle.elastic_ast.specs.declared.flat.Linear.{Linear}
-use Rattle.elastic_ast.specs.Units.PlainUnits.{PlainUnit}
 use Rattle.elastic_ast.specs.Units.Instances.{each_turn}
 use Rattle.int_program.specs.declared.program.Part.{Part}
 use Rattle.int_program.specs.declared.program.Row.{Row}
-use Rattle.unroll_bound.specs.Counts.{is_looped}
 use Rattle.ilp_model.specs.declared.step_keys.ReachedKey.{ReachedKey}
 use Rattle.ilp_model.specs.SeenKeys.{seen_key}
 use Rattle.ilp_model.specs.Objective.{rise_of}
@@ -46,10 +44,9 @@ written_loop symbol first count =
     ∷ written_row (written symbol (neg_ℤ (pos 1)) ++ written_run first count (pos 1)) (pos 0)
     ∷ each_turn (count - 1) (λ index. written_falling (first + index) ∷ [])
 
--- those of a symbol over which loops with units run
-abbrev pub written_looped : List PlainUnit → (ℕ → ℕ) → (ℕ → ℕ) → ℕ → List Row
-written_looped units loops bounds symbol =
-    if is_looped units symbol then written_loop symbol (loops symbol) (bounds symbol) else []
+-- those of a symbol that is marked as one over which loops with units run
+abbrev pub written_marked : (ℕ → Bool) → (ℕ → ℕ) → (ℕ → ℕ) → ℕ → List Row
+written_marked marked loops bounds symbol = if marked symbol then written_loop symbol (loops symbol) (bounds symbol) else []
 
 -- the rows of a key of a step table over a symbol, by the number of the key's variable and the bound
 abbrev pub written_key : ℕ → ℕ → ℕ → ℕ → List Row

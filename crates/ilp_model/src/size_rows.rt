@@ -5,19 +5,19 @@ ghost use Rattle.elastic_ast.specs.Units.Instances.{nth_size, each_turn};
 ghost use Rattle.elastic_ast.specs.Sizes.SizeSums.{negated_if};
 ghost use Rattle.elastic_ast.specs.Typing.LanguageLimits.{most_terms};
 ghost use Rattle.size_terms.specs.SumLimits.{most_right_side};
-ghost use Rattle.elastic_ast.specs.Units.SeenUnits.{seen_unit};
+ghost use Rattle.ilp_model.specs.Marks.{is_marked};
 ghost use Rattle.ilp_model.specs.Objective.{rise_of, first_value, first_values, constant as constant_of};
 ghost use Rattle.ilp_model.specs.SeenKeys.{seen_key};
-ghost use Rattle.ilp_model.specs.Written.{written, written_run, written_row, written_sizes, written_term, written_one, written_falling, written_loop, written_looped, written_key, written_keys, written_rise};
+ghost use Rattle.ilp_model.specs.Written.{written, written_run, written_row, written_sizes, written_term, written_one, written_falling, written_loop, written_marked, written_key, written_keys, written_rise};
 
-use crate::looping::is_looped;
 use crate::parts::{put, put_run, put_sizes};
 use crate::step_keys::ReachedKey;
-use elastic_ast::{Linear, Steps, Terms, Unit, Units};
+use elastic_ast::{Linear, Steps, Terms, Units};
 use elx_bits::Items;
 use int_program::{Part, Row};
 use std::alloc::{AllocError, Global};
 use target_desc::Target;
+use unroll_bound::LoopUse;
 
 /// Adds a row.
 pub(crate) fn put_row(
@@ -143,18 +143,19 @@ fn put_loop(
 pub(crate) fn put_loop_rows(
     alloc: Global,
     rows: &mut Items<Row>,
-    units: &[Unit],
+    uses: &[LoopUse],
     loops: &[u32],
     bounds: &[u64],
 ) -> Result<(), AllocError>
     requires dense { length loops.now ≡ length bounds.now }
+    requires uses { length uses.now ≡ length bounds.now }
     requires symbols { length loops.now ≤ 2 ^ 32 }
     requires near { (symbol : ℕ) → nth_size loops.now symbol + nth_size bounds.now symbol < 2 ^ 32 }
     ensures { OnOk result (rows.new
-        ≡ rows.old ++ each_turn (length loops.now) (written_looped (map seen_unit units.now) (nth_size loops.now) (nth_size bounds.now))) }
+        ≡ rows.old ++ each_turn (length loops.now) (written_marked (is_marked uses.now) (nth_size loops.now) (nth_size bounds.now))) }
 {
     for symbol in 0..loops.len() {
-        if is_looped(units, symbol as u32) {
+        if uses[symbol].looped {
             put_loop(
                 alloc,
                 rows,
@@ -282,7 +283,8 @@ fn first_sum(tables: &[Steps]) -> i128
 pub(crate) fn constant(terms: &Terms) -> i128
     requires near { unsigned_abs terms.now.base ≤ most_right_side }
     requires few { length terms.now.steps ≤ most_terms }
-    ensures { result ≡ constant_of terms.now }
+    ensures value { result ≡ constant_of terms.now }
+    ensures most { unsigned_abs result ≤ 2 ^ 71 }
 {
     terms.base + first_sum(terms.steps.as_slice())
 }

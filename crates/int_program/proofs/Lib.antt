@@ -9,12 +9,15 @@ pub mod WeightLaws
 pub mod NumberLaws
 pub mod TreeLaws
 pub mod KnownLaws
-pub mod CaseLaws
 pub mod CountLaws
 pub mod InsideLaws
 pub mod FairLaws
 pub mod FaultLaws
 pub mod ChildLaws
 pub mod PlaceLaws
+pub mod CaseLaws
+pub mod ShortLaws
+pub mod FirstLaws
+pub mod FoundLaws
 pub mod Examples
 pub mod FairExamples

@@ -1,13 +1,14 @@
--- Trees of cases as trees, and when one is accepted on a box, by recursion on it; this project's own.
-use Rattle.std.specs.Prelude.{◌≡◌, ℕ, ℤ, List, [], ◌∷◌, ◌++◌, Option, slice_get}
+-- Trees of cases as trees, and what holds of each of their nodes, by recursion on them; this project's own.
+use Rattle.std.specs.Prelude.{◌≡◌, ℕ, ◌+◌, ℤ, List, [], ◌∷◌, ◌++◌, Option, slice_get}
 use Rattle.int_program.specs.declared.program.Ip.{Ip}
-use Rattle.int_program.specs.declared.program.IpBox.{IpBox}
+use Rattle.int_program.specs.declared.program.Place.{Place}
 use Rattle.int_program.specs.declared.program.Weight.{Weight}
 use Rattle.int_program.specs.declared.program.Tree.{Tree}
 use Rattle.int_program.specs.declared.program.Node.{Node}
 use Rattle.int_program.specs.declared.program.Node.TheVariants.{Split, Tight, RowLeaf, GoalLeaf, Dual, Far, Unsolved}
 use Rattle.int_program.specs.Boxes.{root_of}
 use Rattle.int_program.specs.Accepts.{IsAccepted, lower_half, upper_half, tight_child}
+use Rattle.int_program.specs.Places.{place}
 
 pub data Cases : Type 0 where
   split : ℕ → ℤ → Cases → Cases → Cases
@@ -27,20 +28,29 @@ preorder (dual over ws) = Dual over ws ∷ []
 preorder (far ws) = Far ws ∷ []
 preorder unsolved = Unsolved ∷ []
 
--- the top node is accepted on the box, and each case on the box that the node leaves it
-abbrev pub AreAccepted : Ip → Option ℤ → IpBox → Cases → Type 0
-AreAccepted ip known b (split v k s t) =
-    IsAccepted ip known b (Split v k) × AreAccepted ip known (lower_half b v k) s × AreAccepted ip known (upper_half b v k) t
-AreAccepted ip known b (tight v r s) =
-    IsAccepted ip known b (Tight v r) × AreAccepted ip known (tight_child b v (slice_get ip.rows r)) s
-AreAccepted ip known b (row_leaf r) = IsAccepted ip known b (RowLeaf r)
-AreAccepted ip known b goal_leaf = IsAccepted ip known b GoalLeaf
-AreAccepted ip known b (dual over ws) = IsAccepted ip known b (Dual over ws)
-AreAccepted ip known b (far ws) = IsAccepted ip known b (Far ws)
-AreAccepted ip known b unsolved = IsAccepted ip known b Unsolved
+-- the top node is at its place as G says, and so is each node of the cases that it leaves, at the places that it opens
+abbrev pub AreAll : Ip → (Place → Node → Type 0) → Place → Cases → Type 0
+AreAll ip G p (split v k s t) =
+    G p (Split v k) × AreAll ip G (place (lower_half p.within v k) 0) s × AreAll ip G (place (upper_half p.within v k) 0) t
+AreAll ip G p (tight v r s) =
+    G p (Tight v r) × AreAll ip G (place (tight_child p.within v (slice_get ip.rows r)) (p.above + 1)) s
+AreAll ip G p (row_leaf r) = G p (RowLeaf r)
+AreAll ip G p goal_leaf = G p GoalLeaf
+AreAll ip G p (dual over ws) = G p (Dual over ws)
+AreAll ip G p (far ws) = G p (Far ws)
+AreAll ip G p unsolved = G p Unsolved
 
--- the nodes are those of some tree that is accepted on the root box
-pub record AreCases (ip : Ip) (known : Option ℤ) (tree : Tree) : Type 0 where
+-- the nodes are those of some tree, and each is at its place from the root box on as G says
+pub record AreCases (ip : Ip) (G : Place → Node → Type 0) (tree : Tree) : Type 0 where
   pub cases : Cases
   pub listed : preorder cases ≡ tree.nodes
-  pub accepted : AreAccepted ip known (root_of ip) cases
+  pub all : AreAll ip G (place (root_of ip) 0) cases
+
+-- the nodes are those of some tree that is accepted on the root box
+abbrev pub AreAccepted : Ip → Option ℤ → Tree → Type 0
+AreAccepted ip known tree = AreCases ip (λ p node. IsAccepted ip known p.within node) tree
+
+-- the nodes are those of some tree, in preorder
+pub record IsWhole (tree : Tree) : Type 0 where
+  pub cases : Cases
+  pub listed : preorder cases ≡ tree.nodes

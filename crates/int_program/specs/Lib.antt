@@ -8,9 +8,10 @@ pub mod Weighted
 pub mod Stopping
 pub mod Numbers
 pub mod Accepts
-pub mod Cases
 pub mod Counting
 pub mod Fair
 pub mod Places
+pub mod Cases
 pub mod FairTrees
+pub mod FirstUnfair
 pub mod TreeLaws

@@ -32,3 +32,7 @@ Fills ip G (p ∷ ps) (node ∷ nodes) rest = G p node × Fills ip G (opened ip 
 -- the tree is whole, and each of its nodes is at its place as G says
 abbrev pub OfEachNode : Ip → (Place → Node → Type 0) → Tree → Type 0
 OfEachNode ip G tree = Fills ip G (place (root_of ip) 0 ∷ []) tree.nodes []
+
+-- the nodes fill the root box: each stands at an open place, and none is left open
+abbrev pub FillsRoot : Ip → Tree → Type 0
+FillsRoot ip tree = OfEachNode ip (λ p node. Unit {0}) tree

@@ -1,5 +1,5 @@
 -- What an accepted tree of cases tells, and what fair nodes are; statements of this project's own, each proved as a law.
-use Rattle.std.specs.Prelude.{◌≡◌, ◌↔◌, ℕ, ℤ, pos, ◌<◌, ◌≤ℤ◌, List, length, Bool, true, false, Option, Some, None, All}
+use Rattle.std.specs.Prelude.{◌≡◌, ◌↔◌, ℕ, ℤ, pos, ◌+◌, ◌*◌, ◌<◌, ◌≤◌, ◌≤ℤ◌, List, length, Bool, IsTrue, true, false, Option, Some, None, All}
 use Rattle.int_program.specs.declared.program.Ip.{Ip}
 use Rattle.int_program.specs.declared.program.IpBox.{IpBox}
 use Rattle.int_program.specs.declared.program.Node.{Node}
@@ -12,11 +12,13 @@ use Rattle.int_program.specs.Weighted.{dual_bound, right_side, rows_least}
 use Rattle.int_program.specs.Stopping.{tried_dual, tried_far}
 use Rattle.int_program.specs.Numbers.{dual_numbers, far_numbers, where_all_fit}
 use Rattle.int_program.specs.Accepts.{IsAccepted, Accepts}
-use Rattle.int_program.specs.Cases.{AreCases}
+use Rattle.int_program.specs.Cases.{AreCases, AreAccepted, IsWhole}
 use Rattle.int_program.specs.Counting.{root_points, split_count, IsCut, IsCutTree}
-use Rattle.int_program.specs.Fair.{IsFairSplit, IsFair}
-use Rattle.int_program.specs.Places.{OfEachNode}
-use Rattle.int_program.specs.FairTrees.{IsAcceptedButOpen}
+use Rattle.int_program.specs.Fair.{IsFairSplit, IsFair, most_above}
+use Rattle.int_program.specs.Places.{OfEachNode, FillsRoot}
+use Rattle.int_program.specs.FairTrees.{IsFairNode, IsFairTree, IsAcceptedButOpen}
+use Rattle.int_program.specs.FirstUnfair.{is_fair_node, first_unfair, IsFirstUnfair}
+use Rattle.int_program.specs.declared.program.Place.{Place}
 
 -- a tree that is accepted for a value leaves no point with a greater value
 abbrev pub NoPointIsBetter : Type 0
@@ -44,7 +46,11 @@ CuttingTreesAreShort = (ip : Ip) (tree : Tree) → IsNonempty (root_of ip) → I
 
 -- the recursion on the list of nodes accepts what the recursion on the tree accepts
 abbrev pub ListsAcceptAsTrees : Type 0
-ListsAcceptAsTrees = (ip : Ip) (known : Option ℤ) (tree : Tree) → Accepts ip known tree ↔ AreCases ip known tree
+ListsAcceptAsTrees = (ip : Ip) (known : Option ℤ) (tree : Tree) → Accepts ip known tree ↔ AreAccepted ip known tree
+
+-- and it finds those trees fair that the recursion on the tree does
+abbrev pub ListsAreFairAsTrees : Type 0
+ListsAreFairAsTrees = (ip : Ip) (known : Option ℤ) (tree : Tree) → IsFairTree ip known tree ↔ AreCases ip (IsFairNode ip known) tree
 
 -- the sum of weighted rows that bounds the objective stops exactly where one of its numbers leaves 128 bits
 abbrev pub DualSumsStop : Type 0
@@ -77,3 +83,33 @@ PlacesHaveTheBoxes = (ip : Ip) (known : Option ℤ) (tree : Tree) → OfEachNode
 -- a tree that is accepted but for its open leaves has fewer splits than its root box has points
 abbrev pub OpenTreesAreShort : Type 0
 OpenTreesAreShort = (ip : Ip) (known : Option ℤ) (tree : Tree) → IsNonempty (root_of ip) → IsAcceptedButOpen ip known tree → split_count tree.nodes < root_points ip
+
+-- a tree is whole exactly where its nodes fill the root box
+abbrev pub WholeTreesFillTheRoot : Type 0
+WholeTreesFillTheRoot = (ip : Ip) (tree : Tree) → FillsRoot ip tree ↔ IsWhole tree
+
+-- so is one that is accepted, but for its open leaves or not, and one that is fair
+abbrev pub AcceptedTreesAreWhole : Type 0
+AcceptedTreesAreWhole = (ip : Ip) (known : Option ℤ) (tree : Tree) → Accepts ip known tree → IsWhole tree
+
+abbrev pub OpenTreesAreWhole : Type 0
+OpenTreesAreWhole = (ip : Ip) (known : Option ℤ) (tree : Tree) → IsAcceptedButOpen ip known tree → IsWhole tree
+
+abbrev pub FairTreesAreWhole : Type 0
+FairTreesAreWhole = (ip : Ip) (known : Option ℤ) (tree : Tree) → IsFairTree ip known tree → IsWhole tree
+
+-- a fair tree has no more nodes than its splits, their cases and the tightenings that may stand above each of these
+abbrev pub FairTreesAreShort : Type 0
+FairTreesAreShort = (ip : Ip) (known : Option ℤ) (tree : Tree) → IsFairTree ip known tree → length tree.nodes ≤ (2 * split_count tree.nodes + 1) * (most_above + 1)
+
+-- the test of a node says whether it is fair
+abbrev pub FairNodesAreTested : Type 0
+FairNodesAreTested = (ip : Ip) (known : Option ℤ) (p : Place) (node : Node) → IsTrue (is_fair_node ip known p node) ↔ IsFairNode ip known p node
+
+-- there is no first node that isn't fair exactly where the tree is whole and fair
+abbrev pub FairTreesHaveNoFirst : Type 0
+FairTreesHaveNoFirst = (ip : Ip) (known : Option ℤ) (tree : Tree) → first_unfair ip known tree ≡ None ↔ IsFairTree ip known tree
+
+-- and of a whole tree it is the first node that isn't fair at its place
+abbrev pub FirstUnfairIsFound : Type 0
+FirstUnfairIsFound = (ip : Ip) (known : Option ℤ) (tree : Tree) (k : ℕ) → IsWhole tree → first_unfair ip known tree ≡ Some k ↔ IsFirstUnfair ip known tree k

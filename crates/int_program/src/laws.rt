@@ -13,12 +13,13 @@ ghost use Rattle.int_program.specs.Weighted.{dual_bound, right_side, rows_least}
 ghost use Rattle.int_program.specs.Stopping.{tried_dual, tried_far};
 ghost use Rattle.int_program.specs.Numbers.{dual_numbers, far_numbers, where_all_fit};
 ghost use Rattle.int_program.specs.Accepts.{IsAccepted, Accepts};
-ghost use Rattle.int_program.specs.Cases.{AreCases};
+ghost use Rattle.int_program.specs.Cases.{AreCases, IsWhole};
 ghost use Rattle.int_program.specs.Counting.{root_points, split_count, IsCut, IsCutTree};
 ghost use Rattle.int_program.specs.Fair.{IsFairSplit, IsFair};
-ghost use Rattle.int_program.specs.Places.{OfEachNode};
+ghost use Rattle.int_program.specs.Places.{OfEachNode, FillsRoot};
 ghost use Rattle.int_program.specs.FairTrees.{IsAcceptedButOpen};
 ghost use Rattle.int_program.specs.TreeLaws.{NoPointIsBetter, NoPointIsLeft, AcceptedForGreaterValues, AcceptedForEachValue, AcceptedTreesAreShort, CuttingTreesAreShort, ListsAcceptAsTrees, DualSumsStop, FarSumsStop, RowsAreSmall, GoalIsSmall, FairSplitsCut, FairWithoutTightening, PlacesHaveTheBoxes, OpenTreesAreShort};
+ghost use Rattle.int_program.specs.TreeLaws.{ListsAreFairAsTrees, WholeTreesFillTheRoot, AcceptedTreesAreWhole, OpenTreesAreWhole, FairTreesAreWhole, FairTreesAreShort, FairNodesAreTested, FairTreesHaveNoFirst, FirstUnfairIsFound};
 
 /// A tree that is accepted for a value leaves no point with a greater value; one that is accepted for none leaves no point.
 pub fn accepted_trees_leave_no_better_point()
@@ -39,9 +40,10 @@ pub fn trees_have_fewer_splits_than_points()
     ensures cut { CuttingTreesAreShort }
 {}
 
-/// The recursion on the list of nodes with the open boxes, and the recursion on the tree, accept the same.
+/// The recursion on the list of nodes with the open places, and the recursion on the tree, accept the same and find the same fair.
 pub fn lists_and_trees_are_accepted_alike()
-    ensures { ListsAcceptAsTrees }
+    ensures accepted { ListsAcceptAsTrees }
+    ensures fair { ListsAreFairAsTrees }
 {}
 
 /// A sum of weighted rows stops exactly where one of its numbers leaves the signed 128 bits, and is the exact one otherwise.
@@ -71,4 +73,24 @@ pub fn fair_splits_cut()
 pub fn places_have_the_boxes_of_the_list()
     ensures boxes { PlacesHaveTheBoxes }
     ensures short { OpenTreesAreShort }
+{}
+
+/// A tree is whole, that is the preorder of some tree, exactly where its nodes fill the root box; so are accepted and fair trees.
+pub fn filled_trees_are_whole()
+    ensures filled { WholeTreesFillTheRoot }
+    ensures accepted { AcceptedTreesAreWhole }
+    ensures open_leaves { OpenTreesAreWhole }
+    ensures fair { FairTreesAreWhole }
+{}
+
+/// A fair tree has at most twice its splits and 1, times 101, nodes: one more leaf than splits, and 100 tightenings above each.
+pub fn fair_trees_are_short()
+    ensures { FairTreesAreShort }
+{}
+
+/// The first node that isn't fair is found by a function that computes: none in a fair tree, and in another whole tree the first one.
+pub fn unfair_nodes_are_found()
+    ensures tested { FairNodesAreTested }
+    ensures none { FairTreesHaveNoFirst }
+    ensures some { FirstUnfairIsFound }
 {}

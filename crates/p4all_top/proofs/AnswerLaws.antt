@@ -42,7 +42,7 @@ answer_is decls on choice.Infeasible outcome fits chosen shows source target tex
     subst (λ (z : Status). Answer (Size source target) (text ∷ description ∷ []) z [] outcome.lines) (sym shows.0)
     (refl, record { decls = decls; on = on; taken = taken; fits = fits; bounded = chosen.0; none = chosen.1; line = shows.1 })
 answer_is decls on (choice.Unbounded symbol) outcome fits chosen shows source target text description taken =
-    let name = there (symbols_of decls) symbol chosen.1.within in
+    let name = there (symbols_of decls) symbol chosen.within in
     subst (λ (z : Status). Answer (Size source target) (text ∷ description ∷ []) z [] outcome.lines) (sym shows.0) (
       refl,
       inr (inr (inr (inl record {
@@ -50,17 +50,19 @@ answer_is decls on (choice.Unbounded symbol) outcome fits chosen shows source ta
         on = on;
         taken = taken;
         fits = fits;
-        no_main = chosen.0;
         place = symbol;
-        unbounded = chosen.1;
+        unbounded = chosen;
         symbol = name.0;
         named = name.1;
         line = subst (λ (z : Option Name). IfSome z (λ name. outcome.lines ≡ unbounded_text name)) name.1 shows.1;
       }))),
     )
+answer_is decls on (choice.Large what count) outcome fits chosen shows source target text description taken =
+    subst (λ (z : Status). Answer (Size source target) (text ∷ description ∷ []) z [] outcome.lines) (sym shows.0)
+    (refl, inr (inr (inr (inr (inl record { decls = decls; on = on; taken = taken; fits = fits; what = what; count = count; large = chosen; line = shows.1 })))))
 answer_is decls on choice.NotYet outcome fits chosen shows source target text description taken =
     subst (λ (z : Status). Answer (Size source target) (text ∷ description ∷ []) z [] outcome.lines) (sym shows.0)
-    (refl, inr (inr (inr (inr record { decls = decls; on = on; taken = taken; fits = fits; cause = chosen; line = shows.1 }))))
+    (refl, inr (inr (inr (inr (inr record { decls = decls; on = on; taken = taken; fits = fits; cause = chosen; line = shows.1 })))))
 
 -- and so where there is memory for it
 pub answer_found : (decls : PlainProgram) (on : Target) (symbols : List Name) (made : Choice) {E : Type 0} (result : Result Outcome E) → OpsFit decls on.ops → symbols ≡ symbols_of decls → IsChoice decls on made → IfOk result (ShowsChoice symbols made)

@@ -1,15 +1,14 @@
 -- How a run of a command must end, by what the files that it reads hold, unless want of memory or a fault ends it; this
 -- project's own.
-use Rattle.std.specs.Prelude.{◌≡◌, ◌≤◌, ℕ, false, List, [], ◌∷◌, length}
+use Rattle.std.specs.Prelude.{◌≡◌, ◌≤◌, ℕ, List, [], ◌∷◌, length}
 use Rattle.elastic_ast.specs.declared.flat.At.{At}
 use Rattle.elastic_ast.specs.Tree.{PlainProgram}
-use Rattle.elastic_ast.specs.Typing.Asked.{DeclKind, has}
 use Rattle.elastic_ast.specs.Units.UnitsOf.{OpsFit}
 use Rattle.target_desc.specs.declared.target.Target.{Target}
 use Rattle.p4all_top.specs.declared.status.Status.{Status}
 use Rattle.p4all_top.specs.declared.status.Status.TheVariants as status
-use Rattle.box_listing.specs.Choice.{IsBounded, IsNotYet}
-use Rattle.unroll_bound.specs.ProgramBounds.{IsUnbounded}
+use Rattle.unroll_bound.specs.declared.unit_bounds.What.{What}
+use Rattle.box_listing.specs.Choice.{IsBounded, IsNotYet, IsUnbounded, IsLarge}
 use Rattle.p4all_top.specs.Command.{Command, Size}
 use Rattle.p4all_top.specs.Description.{IsDescription, IsNoDescription}
 use Rattle.dep_graph.specs.Feasible.{Feasible}
@@ -28,7 +27,8 @@ MustEnd expected ended = ended ≡ expected
 pub record EndsOn (decls : PlainProgram) (on : Target) (ended : Status) : Type 0 where
   pub too_large : (OpsFit decls on.ops → ⊥) → MustEnd status.Refused ended
   pub not_yet : IsNotYet decls on → MustEnd status.Refused ended
-  pub unbounded : has DeclKind.Main decls ≡ false → (place : ℕ) → IsUnbounded decls on place → MustEnd status.Refused ended
+  pub unbounded : (place : ℕ) → IsUnbounded decls on place → MustEnd status.Refused ended
+  pub large : (what : What) (count : ℕ) → IsLarge decls on what count → MustEnd status.Refused ended
   pub best : OpsFit decls on.ops → IsBounded decls on → (sizes : List ℕ) (placement : List At) → Feasible decls on sizes placement → MustEnd status.Done ended
   pub none : OpsFit decls on.ops → IsBounded decls on → Infeasible decls on → MustEnd status.Infeasible ended
 

@@ -4,6 +4,8 @@ use Rattle.elastic_ast.specs.declared.rule.Rule.{Rule}
 use Rattle.elx_io.specs.Lines.{with_word, with_number, with_end}
 use Rattle.target_desc.specs.TargetKeys.{key_text}
 use Rattle.target_desc.specs.declared.key_name.KeyName.{KeyName}
+use Rattle.unroll_bound.specs.declared.unit_bounds.What.{What}
+use Rattle.unroll_bound.specs.declared.unit_bounds.What.TheVariants as what
 use Rattle.p4all_top.specs.declared.parsing.Refusal.{Refusal}
 use Rattle.p4all_top.specs.declared.parsing.Refusal.TheVariants as refusal
 use Rattle.p4all_top.specs.RuleNames.{rule_text}
@@ -47,6 +49,17 @@ unit_text unit ops = with_end (with_number (with_number (begun_refusal (codes "u
 
 abbrev pub unbounded_text : List ℕ → List ℕ
 unbounded_text symbol = refused_text (codes "unbounded") symbol
+
+-- what is too large
+abbrev pub what_text : What → List ℕ
+what_text what.Bound = codes "bound"
+what_text what.Instances = codes "instances"
+what_text what.Variables = codes "variables"
+what_text what.Rows = codes "rows"
+
+-- the line `refused large WHAT COUNT`
+abbrev pub large_text : What → ℕ → List ℕ
+large_text part count = with_end (with_number (begun_cause (codes "large") (what_text part)) (pos count))
 
 -- the line that gives up where what is chosen isn't built yet
 abbrev pub notyet_text : List ℕ

@@ -1,6 +1,8 @@
 //! The top call of the compiler, and one call for each command.
 #![tactic(auto)]
 
+#[cfg(test)]
+mod bound_tests;
 mod output;
 mod parsing;
 mod printing;

@@ -1,7 +1,7 @@
 //! The lines that the commands print.
 
-ghost use Rattle.std.specs.Prelude.{◌≡◌, ◌≤◌, length, IfOk, OnOk};
-ghost use Rattle.p4all_top.specs.Printed.{with_size, with_utility, sizes_text, infeasible_text, unit_text, unbounded_text};
+ghost use Rattle.std.specs.Prelude.{◌≡◌, ◌≤◌, ◌<◌, ◌^◌, length, IfOk, OnOk};
+ghost use Rattle.p4all_top.specs.Printed.{with_size, with_utility, sizes_text, infeasible_text, unit_text, unbounded_text, what_text, large_text};
 ghost use Rattle.p4all_top.specs.Printed.{notyet_text, begun_cause, begun_refusal, begun_rule, refused_text, source_text, rule_line_text, target_text, refusal_text};
 
 use crate::parsing::Refusal;
@@ -10,6 +10,7 @@ use elx_bits::Name;
 use elx_io::Lines;
 use std::alloc::{AllocError, Global};
 use target_desc::KeyName;
+use unroll_bound::What;
 use width_check::Rule;
 
 /// Adds the line of one symbol.
@@ -75,6 +76,29 @@ pub fn unbounded_line(alloc: Global, symbol: &Name) -> Result<Lines, AllocError>
     ensures { IfOk result (λ lines. lines ≡ unbounded_text symbol.now) }
 {
     refused_line(alloc, b"unbounded", symbol.as_slice())
+}
+
+/// The word for what is too large.
+fn what_word(what: What) -> &'static [u8]
+    ensures { result.now ≡ what_text what }
+{
+    match what {
+        What::Bound => b"bound",
+        What::Instances => b"instances",
+        What::Variables => b"variables",
+        What::Rows => b"rows",
+    }
+}
+
+/// The line that refuses a program of which something is too large.
+pub fn large_line(alloc: Global, what: What, count: u128) -> Result<Lines, AllocError>
+    requires { count < 2 ^ 127 }
+    ensures { IfOk result (λ lines. lines ≡ large_text what count) }
+{
+    let mut lines = cause_begun(alloc, b"large", what_word(what))?;
+    lines.number(count as i128)?;
+    lines.end()?;
+    Ok(lines)
 }
 
 /// The line that refuses a source or a target's description.

@@ -335,10 +335,15 @@ fn a_source_is_refused_for_its_first_cause(rt: HostRuntime) -> Result<(), Fail> 
     Ok(())
 }
 
-/// A whole program whose control has this body.
-fn whole(alloc: Global, body: &str) -> Result<String, AllocError> {
+/// A whole program with these declarations in front, this metadata, and this body of its control.
+pub fn whole_with(
+    alloc: Global,
+    front: &str,
+    fields: &str,
+    body: &str,
+) -> Result<String, AllocError> {
     format!(in alloc;
-        "header h_t {{ bit<8> v; }} struct headers_t {{ h_t h; }} struct meta_t {{ }}\n\
+        "{front} header h_t {{ bit<8> v; }} struct headers_t {{ h_t h; }} struct meta_t {{ {fields} }}\n\
         parser P(packet_in pkt, out headers_t hdr, inout meta_t meta, inout std_t std) {{\n\
         state start {{ pkt.extract(hdr.h); transition accept; }} }}\n\
         control C(inout headers_t hdr, inout meta_t meta, inout std_t std) {{ apply {{\n\
@@ -346,6 +351,11 @@ fn whole(alloc: Global, body: &str) -> Result<String, AllocError> {
         control D(packet_out pkt, in headers_t hdr) {{ apply {{ pkt.emit(hdr.h); }} }}\n\
         Pisa(P(), C(), D()) main;\n"
     )
+}
+
+/// A whole program whose control has this body.
+fn whole(alloc: Global, body: &str) -> Result<String, AllocError> {
+    whole_with(alloc, "", "", body)
 }
 
 /// A whole program whose control assigns in so many conditions, each in the one before.
@@ -383,15 +393,24 @@ fn the_first_unit_with_too_many_operators_is_refused(rt: HostRuntime) -> Result<
 }
 
 #[test]
-fn a_large_unit_is_refused_behind_the_target(rt: HostRuntime) -> Result<(), Fail> {
-    let source = whole(rt.alloc(), RISING)?;
-    let refused = refuses(
-        rt.alloc(),
-        source.as_bytes(),
-        b"stages = 1\nops = 1\n",
-        "refused target missing memory_bits\n",
-    )?;
-    assert!(rt; refused);
+fn a_large_unit_is_refused_behind_the_target_and_before_the_bounds(
+    rt: HostRuntime,
+) -> Result<(), Fail> {
+    let source = whole_with(rt.alloc(), "symbolic int s;", "", RISING)?;
+    let few = one_stage_with(rt.alloc(), 512, 1)?;
+    let more = one_stage_with(rt.alloc(), 512, 3)?;
+    let rows = [
+        (
+            "stages = 1\nops = 1\n",
+            "refused target missing memory_bits\n",
+        ),
+        (few.as_str(), "refused unit 1 2\n"),
+        (more.as_str(), "refused unbounded s\n"),
+    ];
+    for (target, line) in rows {
+        let refused = refuses(rt.alloc(), source.as_bytes(), target.as_bytes(), line)?;
+        assert!(rt; refused, "{line}");
+    }
     Ok(())
 }
 

@@ -2,15 +2,16 @@
 
 ghost use Rattle.std.specs.Prelude.{◌≡◌, IfOk, length};
 ghost use Rattle.elastic_ast.specs.Seen.{seen_decls};
+ghost use Rattle.elastic_ast.specs.Units.SeenUnits.{seen_units};
 ghost use Rattle.elastic_ast.specs.Units.UnitsOf.{OpsFit};
-ghost use Rattle.box_listing.specs.Choice.{AreUnitsFor};
+ghost use Rattle.box_listing.specs.Choice.{AreKnownUnits};
 ghost use Rattle.target_desc.specs.InRange.{IsInRange};
 ghost use Rattle.p4all_top.specs.Printed.{refusal_text, unit_text};
 ghost use Rattle.p4all_top.specs.Shown.{FitsSymbols, IsAnswerFor, ShowsChoice};
 
 use crate::parsing::Refusal;
 use crate::printing::{
-    infeasible_line, notyet_line, refusal_line, sizes_lines, unbounded_line, unit_line,
+    infeasible_line, large_line, notyet_line, refusal_line, sizes_lines, unbounded_line, unit_line,
 };
 use crate::status::Status;
 use box_listing::{Choice, choose};
@@ -66,8 +67,12 @@ fn outcome_of(alloc: Global, symbols: &[Name], choice: Choice) -> Result<Outcome
         }
         Choice::Infeasible => (Status::Infeasible, infeasible_line(alloc)?),
         Choice::Unbounded { symbol } => {
-            (Status::Refused, unbounded_line(alloc, &symbols[symbol])?)
+            (
+                Status::Refused,
+                unbounded_line(alloc, &symbols[symbol as usize])?,
+            )
         }
+        Choice::Large { what, count } => (Status::Refused, large_line(alloc, what, count)?),
         Choice::NotYet => (Status::Refused, notyet_line(alloc)?),
     };
     Ok(Outcome { status, lines })
@@ -80,7 +85,8 @@ fn outcome_for(
     units: &Units,
     target: &Target,
 ) -> Result<Outcome, AllocError>
-    requires units { AreUnitsFor (seen_decls checked.now) units.now }
+    requires units { AreKnownUnits (seen_decls checked.now) (seen_units units.now) }
+    requires in_range { IsInRange target.now }
     requires fits { OpsFit (seen_decls checked.now) target.now.ops }
     ensures { IfOk result (λ outcome.
         IsAnswerFor (seen_decls checked.now) target.now outcome.status outcome.lines) }

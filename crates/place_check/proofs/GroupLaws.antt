@@ -129,6 +129,24 @@ walk_loop sizes units placement place first unit count turns result whole h e sa
     ∙ ap (first_difference place (map named_pair (drop place placement))) (sym (loop_first sizes units first unit h e count same))
     ∙ rest
 
+-- the instances of a loop are listed behind those before it
+pub list_loop : (sizes : ℕ → ℕ) (units : List FlatUnit) (old new whole : List (ℕ × ℕ)) (first : ℕ) (unit : FlatUnit) (count turns : ℕ)
+    → first < length units → unit ≡ get_or units first unit → count ≡ joined unit.loop_no unit.size (drop (first + 1) (map seen_unit units)) → turns ≡ turns_of sizes unit.size
+    → new ≡ old ++ each_turn turns (one_turn first (1 + count))
+    → old ++ pairs_from sizes first (drop first (map seen_unit units)) ≡ whole
+    → new ++ pairs_from sizes (first + (1 + count)) (drop (first + (1 + count)) (map seen_unit units)) ≡ whole
+list_loop sizes units old new whole first unit count turns h e same often listed rest =
+    let behind : List (ℕ × ℕ) = pairs_from sizes (first + (1 + count)) (drop (first + (1 + count)) (map seen_unit units)) in
+    ap (λ z. z ++ behind) listed
+    ∙ ap (λ (n : ℕ). (old ++ each_turn n (one_turn first (1 + count))) ++ behind) often
+    ∙ append_assoc old (each_turn (turns_of sizes unit.size) (one_turn first (1 + count))) behind
+    ∙ ap (λ z. old ++ z) (sym (loop_first sizes units first unit h e count same))
+    ∙ rest
+
+pub list_end : (sizes : ℕ → ℕ) (units : List FlatUnit) (list whole : List (ℕ × ℕ)) (first : ℕ) → length units ≤ first → list ++ pairs_from sizes first (drop first (map seen_unit units)) ≡ whole → list ≡ whole
+list_end sizes units list whole first end rest =
+    sym (append-nil list) ∙ ap (λ z. list ++ pairs_from sizes first z) (sym (past_end (map seen_unit units) first (let h = length-map units seen_unit in omega (arith, h, end)))) ∙ rest
+
 module _ (sizes : ℕ → ℕ) (units : List FlatUnit) (placement : List At) (place first : ℕ) (whole : Option ℕ) (end : length units ≤ first)
     (rest : first_difference place (map named_pair (drop place placement)) (pairs_from sizes first (drop first (map seen_unit units))) ≡ whole) where
   none_left : first_difference place (map named_pair (drop place placement)) [] ≡ whole

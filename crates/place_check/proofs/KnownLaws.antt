@@ -8,7 +8,7 @@ use Rattle.elastic_ast.specs.Units.PlainUnits.{PlainUnit}
 use Rattle.elastic_ast.specs.Units.Instances.{Instance, Group, joins, new_group, with_unit, groups_from, at_index, each_turn, group_instances, all_instances, pair_of, instances}
 use Rattle.dep_graph.specs.Laid.{Placed, laid}
 use Rattle.dep_graph.specs.PlacementRules.{named_pair, ListsInstances}
-use Rattle.place_check.specs.Standing.{no_unit, placed_at, standing, NamesUnits, ListedStands}
+use Rattle.place_check.specs.Standing.{no_unit, instance_at, placed_at, standing, AreNamed, NamesUnits, ListedStands, InstancesAreNamed}
 
 both_all : {A : Type 0} (P : A → Type 0) (xs ys : List A) → AllByRecursion P xs → AllByRecursion P ys → AllByRecursion P (xs ++ ys)
 both_all P [] ys h g = g
@@ -82,6 +82,21 @@ module _ (units : List PlainUnit) where
         ap (λ (p : Placed). p ∷ laid ones placement) (head_stands one at known.0 parts.0) ∙ ap (λ (ps : List Placed). placed_at units at ∷ ps) rest.0,
         All-cons (λ (at : At). at.unit < length units) at placement (let h = known.0.number in omega (arith, h, number)) rest.1,
       )
+
+  head_named : (one : Instance) → Knows one → instance_at units (pair_of one) ≡ one
+  head_named one known = ap (λ (u : PlainUnit). record { number = one.number; index = one.index; unit = u }) (sym known.unit)
+
+  all_named : (ones : List Instance) → AllByRecursion Knows ones → AreNamed units ones (map pair_of ones)
+  all_named [] known = record { within = All-nil (λ (pair : ℕ × ℕ). pair.0 < length units); named = refl }
+  all_named (one ∷ ones) known =
+      let rest = all_named ones known.1 in
+      record {
+        within = All-cons (λ (pair : ℕ × ℕ). pair.0 < length units) (pair_of one) (map pair_of ones) known.0.number rest.within;
+        named = ap (λ (i : Instance). i ∷ map (instance_at units) (map pair_of ones)) (head_named one known.0) ∙ ap (λ (is : List Instance). one ∷ is) rest.named;
+      }
+
+pub instances_named : InstancesAreNamed
+instances_named units sizes = all_named units (instances units sizes) (whole_known units sizes units refl)
 
 pub stands_listed : ListedStands
 stands_listed units sizes placement listed = (both_stand units (instances units sizes) placement (whole_known units sizes units refl) listed).0

@@ -81,7 +81,7 @@ fn turns_met(
 }
 
 /// How often a unit runs.
-fn turns_of(unit: &Unit, sizes: &[u64]) -> u64
+pub fn turns_of(unit: &Unit, sizes: &[u64]) -> u64
     requires { AreSmall sizes.now }
     ensures { result ≡ turns_by (nth_size sizes.now) unit.now.size }
 {
@@ -109,7 +109,7 @@ fn joins(unit: &Unit, loop_no: Option<u32>, size: Option<u32>) -> bool
 }
 
 /// How many units from a number on stand in the loop.
-fn joined_from(units: &[Unit], from: usize, loop_no: Option<u32>, size: Option<u32>) -> usize
+pub fn joined_from(units: &[Unit], from: usize, loop_no: Option<u32>, size: Option<u32>) -> usize
     requires { from ≤ length units.now }
     ensures joined { result ≡ joined loop_no size (drop from (map seen_unit units.now)) }
     ensures within { from + result ≤ length units.now }

@@ -3,9 +3,10 @@
 ghost use Rattle.std.specs.Prelude.{◌≡◌, ◌<◌, ◌≤◌, ◌+◌, length, map, drop, All, option_map, option_copied, Some, None};
 ghost use Rattle.std.specs.List.{find};
 ghost use Rattle.elastic_ast.specs.Units.SeenUnits.{seen_unit};
+ghost use Rattle.dep_graph.specs.PlacementRules.{named_pair};
 ghost use Rattle.dep_graph.specs.SeenRelation.{seen_relation};
 ghost use Rattle.elastic_ast.specs.Units.Order.{order as order_of};
-ghost use Rattle.place_check.specs.KnownOrders.{relation_at, IsKnown, AreKnown};
+ghost use Rattle.place_check.specs.KnownOrders.{relation_at, order_at, IsKnown, AreKnown};
 ghost use Rattle.place_check.specs.Standing.{placed_at, NamesUnits};
 ghost use Rattle.place_check.specs.Misplaced.{stands_so as stands, against as is_against, first_against};
 
@@ -25,24 +26,24 @@ fn stands_so(relation: Relation, stage: u8, later: u8) -> bool
 
 /// Two units by their numbers, and their order at one index and at indices that differ.
 #[derive(Clone, Copy)]
-struct Known {
-    first: u32,
-    second: u32,
+pub struct Known {
+    first: usize,
+    second: usize,
     equal: Relation,
     different: Relation,
 }
 
 impl Known {
     /// The orders of two units.
-    fn of(units: &[Unit], first: u32, second: u32) -> Known
+    fn of(units: &[Unit], first: usize, second: usize) -> Known
         requires first { first < length units.now }
         requires second { second < length units.now }
         ensures known { IsKnown (map seen_unit units.now) result }
         ensures first { result.first ≡ first }
         ensures second { result.second ≡ second }
     {
-        let one = &units[first as usize];
-        let other = &units[second as usize];
+        let one = &units[first];
+        let other = &units[second];
         Known {
             first,
             second,
@@ -60,7 +61,7 @@ impl Known {
 }
 
 /// The orders of two units, which are kept at a place of their own, where those of other two give way to them.
-fn recalled(kept: &mut [Option<Known>], units: &[Unit], first: u32, second: u32) -> Known
+fn recalled(kept: &mut [Option<Known>], units: &[Unit], first: usize, second: usize) -> Known
     requires first { first < length units.now }
     requires second { second < length units.now }
     requires kept { AreKnown (map seen_unit units.now) kept.old }
@@ -72,7 +73,7 @@ fn recalled(kept: &mut [Option<Known>], units: &[Unit], first: u32, second: u32)
     if kept.is_empty() {
         return Known::of(units, first, second);
     }
-    let place = (first as usize * 64 + second as usize) % kept.len();
+    let place = (first % 64 * 64 + second % 64) % kept.len();
     if let Some(known) = kept[place] {
         if known.first == first && known.second == second {
             return known;
@@ -81,6 +82,34 @@ fn recalled(kept: &mut [Option<Known>], units: &[Unit], first: u32, second: u32)
     let known = Known::of(units, first, second);
     kept[place] = Some(known);
     known
+}
+
+/// The order of an instance and a later one, each as the number of its unit and its index: what it asks of their stages.
+///
+/// The order of two units is decided once where their indices are equal and once where they differ, and kept, so that it need not be
+/// decided again as long as the place isn't wanted for other units. `kept` has any length; `[None; 4096]` has a place for each two of 64
+/// units that stand side by side. What is kept is of these units only. There is no error.
+pub fn known_order(
+    kept: &mut [Option<Known>],
+    units: &[Unit],
+    first: (usize, u64),
+    later: (usize, u64),
+) -> Relation
+    requires first { first.0 < length units.now }
+    requires later { later.0 < length units.now }
+    requires kept { AreKnown (map seen_unit units.now) kept.old }
+    ensures order { seen_relation result ≡ order_at (map seen_unit units.now) first later }
+    ensures kept { AreKnown (map seen_unit units.now) kept.new }
+{
+    let known = recalled(kept, units, first.0, later.0);
+    known.at(first.1 == later.1)
+}
+
+/// The number of a unit and the index, where an instance stands.
+fn pair_of(at: At) -> (usize, u64)
+    ensures { result ≡ named_pair at }
+{
+    (at.unit as usize, u64::from(at.index))
 }
 
 /// Whether an instance and a later one stand against their order. Where the earlier one's stage is the smaller one, no order is
@@ -95,8 +124,7 @@ fn against(kept: &mut [Option<Known>], units: &[Unit], first: At, later: At) -> 
     if first.stage < later.stage {
         return false;
     }
-    let known = recalled(kept, units, first.unit, later.unit);
-    let relation = known.at(first.index == later.index);
+    let relation = known_order(kept, units, pair_of(first), pair_of(later));
     !stands_so(relation, first.stage, later.stage)
 }
 

@@ -1,4 +1,3 @@
-pub mod BoundLaws
 pub mod CountLaws
 pub mod InstanceTotals
 pub mod LoopLaws
@@ -8,5 +7,7 @@ pub mod SymbolListLaws
 pub mod Totals
 pub mod UseSteps
 pub mod WithinBounds
-pub mod WithinLaws
 pub mod CountSteps
+pub mod OrderSteps
+pub mod SoundLaws
+pub mod FindingSteps

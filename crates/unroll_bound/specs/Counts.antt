@@ -66,8 +66,8 @@ variable_count units target bounds =
     + instance_count units.list bounds * target.stages + symbolic_count units.list bounds * target.stages
 
 -- a loop's rows: two that it runs as often as the size says, and one for each two indices that follow each other
-abbrev pub loop_rows : (ℕ → ℕ) → ℕ → ℕ
-loop_rows bounds symbol = 2 + (bounds symbol - 1)
+abbrev pub loop_row_count : (ℕ → ℕ) → ℕ → ℕ
+loop_row_count bounds symbol = 2 + (bounds symbol - 1)
 
 -- the rows of an earlier instance and a later one, by their order
 abbrev pub relation_rows : ℕ → Relation → ℕ
@@ -76,20 +76,20 @@ relation_rows stages Relation.NotAfter = stages - 1
 relation_rows stages Relation.Free = 0
 
 -- those of each instance and each later one
-abbrev pub order_rows : ℕ → List Instance → ℕ
-order_rows stages [] = 0
-order_rows stages (first ∷ rest) = sum_by (λ later. relation_rows stages (order_of first later)) rest + order_rows stages rest
+abbrev pub order_row_count : ℕ → List Instance → ℕ
+order_row_count stages [] = 0
+order_row_count stages (first ∷ rest) = sum_by (λ later. relation_rows stages (order_of first later)) rest + order_row_count stages rest
 
 -- the rows without those of orders: one for each row of the assume clauses, each symbol that is at least 1 and the header bits, those
 -- of loops, two for each key and each instance, those of cells that a symbol counts, and five for each stage
 abbrev pub plain_row_count : PlainUnits → Target → (ℕ → ℕ) → ℕ
 plain_row_count units target bounds =
-    length units.terms.rows + length units.terms.ones + 1 + sum_by (loop_rows bounds) (looped_symbols units)
+    length units.terms.rows + length units.terms.ones + 1 + sum_by (loop_row_count bounds) (looped_symbols units)
     + 2 * key_count units.terms.steps bounds + 2 * instance_count units.list bounds
     + symbolic_count units.list bounds * (target.stages + 1) + 5 * target.stages
 
 abbrev pub row_count : PlainUnits → Target → (ℕ → ℕ) → ℕ
-row_count units target bounds = plain_row_count units target bounds + order_rows target.stages (instances units.list bounds)
+row_count units target bounds = plain_row_count units target bounds + order_row_count target.stages (instances units.list bounds)
 
 -- the counts of instances are those of their list
 pub record CountsInstances (units : List PlainUnit) (bounds : ℕ → ℕ) : Type 0 where

@@ -1,10 +1,11 @@
 //! The bounds of all symbols, gathered rule by rule.
 
-ghost use Rattle.std.specs.Prelude.{◌≡◌, ℕ, get_or, length, map, All, IfOk};
+ghost use Rattle.std.specs.Prelude.{◌≡◌, ◌<◌, ℕ, get_or, length, map, All, IfOk};
 ghost use Rattle.elastic_ast.specs.Units.PlainUnits.{PlainUnits};
-ghost use Rattle.elastic_ast.specs.Units.SeenUnits.{seen_unit};
+ghost use Rattle.elastic_ast.specs.Units.SeenUnits.{seen_unit, seen_units};
 ghost use Rattle.size_terms.specs.Rows.{AreShort};
-ghost use Rattle.unit_flow.specs.SoundUnits.{IsLoopSize};
+ghost use Rattle.unit_flow.specs.SoundUnits.{IsLoopSize, SoundUnits};
+ghost use Rattle.unroll_bound.specs.GatheredBounds.{IsGathered};
 ghost use Rattle.unroll_bound.specs.LoopUses.{NamesSymbol, loop_use};
 ghost use Rattle.unroll_bound.specs.SizeRules.{rows_bound, cells_bound};
 ghost use Rattle.unroll_bound.specs.UnitBounds.{bound_of_units};
@@ -13,9 +14,9 @@ ghost use Rattle.unroll_bound.specs.SymbolLists.{IsListOf};
 use crate::cells::lower_by_cells;
 use crate::certain::certain_symbols;
 use crate::joining::units_bound;
-use crate::loop_uses::LoopUse;
+use crate::loop_uses::{LoopUse, uses_of_loops};
 use crate::rules::{lesser, lower_by_rows, share};
-use elastic_ast::{Terms, Unit};
+use elastic_ast::{Terms, Unit, Units};
 use std::alloc::{AllocError, Global};
 use target_desc::Target;
 
@@ -64,4 +65,47 @@ pub fn bound_at(
 {
     let header = share(u128::from(target.header_bits), u128::from(bits));
     lesser(by_rows, lesser(header, units_bound(one, cells, target)))
+}
+
+/// What the rows, the loops and the cells of registers say of each symbol.
+#[derive(Drop)]
+pub struct Gathered {
+    pub rows: Vec<Option<u128>>,
+    pub uses: Vec<LoopUse>,
+    pub cells: Vec<Option<u128>>,
+}
+
+/// Gathers what is said of all symbols, in one walk over the rows and three over the units.
+pub fn gather(alloc: Global, units: &Units, target: &Target) -> Result<Gathered, AllocError>
+    requires { SoundUnits (seen_units units.now) }
+    ensures { IfOk result (IsGathered (seen_units units.now) target.now) }
+{
+    let list = units.list.as_slice();
+    let rows = bounds_by_rows(alloc, &units.terms)?;
+    let uses = uses_of_loops(alloc, list, units.terms.symbols.as_slice().len())?;
+    let cells = bounds_by_cells(alloc, &units.terms, list, target.memory_bits)?;
+    Ok(Gathered { rows, uses, cells })
+}
+
+/// The bound of a symbol, from what was gathered.
+pub fn gathered_bound(
+    units: &Units,
+    target: &Target,
+    gathered: &Gathered,
+    symbol: usize,
+) -> Option<u128>
+    requires sound { SoundUnits (seen_units units.now) }
+    requires gathered { IsGathered (seen_units units.now) target.now gathered.now }
+    requires within { symbol < length units.now.terms.symbols }
+    ensures { result ≡ bound_of_units (seen_units units.now) target.now symbol }
+{
+    let rows = gathered.rows[symbol];
+    let bits = units.symbol_bits.as_slice()[symbol];
+    bound_at(
+        rows,
+        bits,
+        gathered.uses[symbol],
+        gathered.cells[symbol],
+        target,
+    )
 }

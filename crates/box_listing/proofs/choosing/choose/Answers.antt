@@ -1,27 +1,27 @@
-use Rattle.std.proofs.Common.{inl, Some, length, get_or, sym, ap, subst, ◌∙◌}
+use Rattle.std.proofs.Common.{ℕ, List, inl, sym, subst, ◌∙◌}
 use Rattle.elastic_ast.specs.Seen.{seen_decls}
-use Rattle.unroll_bound.specs.LoweredBounds.{AreUnitBounds}
-use Rattle.unroll_bound.specs.declared.bounds.Bounds.{Bounds}
-use Rattle.box_listing.proofs.ChoiceLaws.{Given, bits_dense, chosen, unbounded}
+use Rattle.elastic_ast.specs.Units.SeenUnits.{seen_units}
+use Rattle.unroll_bound.specs.BoundAnswers.{AreBoundsWithin}
+use Rattle.box_listing.proofs.ChoiceLaws.{bounds_same, chosen, large_same, unbounded_same}
 use Rattle.box_listing.proofs.choosing.choose.Goals as goal
 
-pub returns-then-declares_main : goal.returns-then-declares_main
-returns-then-declares_main c = inl (sym c.declares_main.ensures ∙ c.if-declares_main.true)
+pub returns-in-Err-Unbounded-clause-choice : goal.returns-in-Err-Unbounded-clause-choice
+returns-in-Err-Unbounded-clause-choice c =
+    rw c.in-Err-Unbounded.symbol-is (unbounded_same (seen_decls c.args.checked.now) (seen_units c.args.units.now) c.args.target.now c.in-Err-Unbounded.symbol c.requires.units (rw c.in-Err-Unbounded.field-0-is at c.in-Err-Unbounded.ensures.refused))
 
-pub bounds_of-requires-clause-sized : goal.bounds_of-requires-clause-sized
-bounds_of-requires-clause-sized c = bits_dense (seen_decls c.args.checked.now) c.args.units.now c.requires
+pub returns-in-Err-TooLarge-clause-choice : goal.returns-in-Err-TooLarge-clause-choice
+returns-in-Err-TooLarge-clause-choice c =
+    rw c.in-Err-TooLarge.what-is (rw c.in-Err-TooLarge.count-is (large_same (seen_decls c.args.checked.now) (seen_units c.args.units.now) c.args.target.now c.in-Err-TooLarge.what c.in-Err-TooLarge.count c.requires.units (rw c.in-Err-TooLarge.field-0-is at c.in-Err-TooLarge.ensures.refused)))
 
-pub returns-in-All : goal.returns-in-All
-returns-in-All c =
-    let given : Given (seen_decls c.args.checked.now) c.args.units.now = record { no_main = sym c.declares_main.ensures ∙ c.if-declares_main.false; units_for = c.requires } in
-    let P : Bounds → Type 0 = AreUnitBounds c.args.units.now c.args.target.now.header_bits in
-    let found = subst P c.in-All.is c.in_ok-bounds.ensures in
-    let value = c.as_slice.ensures.value in
-    chosen (seen_decls c.args.checked.now) c.args.units.now c.args.target.now c.as_slice.result.now c.best_within.result given (ap length value ∙ found.0)
-    (λ place h. found.1 place h ∙ ap (λ z. Some (get_or z place 0)) (sym value)) c.best_within.ensures
+pub returns-then-declares_main-clause-choice : goal.returns-then-declares_main-clause-choice
+returns-then-declares_main-clause-choice c = record {
+  bounds = c.in-Ok.list.most;
+  are_bounds = bounds_same (seen_decls c.args.checked.now) (seen_units c.args.units.now) c.args.target.now c.in-Ok.list.most c.requires.units c.in-Ok.ensures.found;
+  cause = inl (sym c.declares_main.ensures ∙ c.if-declares_main.true);
+}
 
-pub returns-in-Missing : goal.returns-in-Missing
-returns-in-Missing c =
-    let given : Given (seen_decls c.args.checked.now) c.args.units.now = record { no_main = sym c.declares_main.ensures ∙ c.if-declares_main.false; units_for = c.requires } in
-    let P : Bounds → Type 0 = AreUnitBounds c.args.units.now c.args.target.now.header_bits in
-    unbounded (seen_decls c.args.checked.now) c.args.units.now c.args.target.now c.in-Missing.symbol given (subst P c.in-Missing.is c.in_ok-bounds.ensures)
+pub returns-clause-choice : goal.returns-clause-choice
+returns-clause-choice c =
+    let P : List ℕ → Type 0 = AreBoundsWithin (seen_units c.args.units.now) c.args.target.now in
+    chosen (seen_decls c.args.checked.now) c.args.units.now c.args.target.now c.as_slice.result.now c.best_within.result record { no_main = sym c.declares_main.ensures ∙ c.if-declares_main.false; known = c.requires.units }
+    (subst P (sym c.as_slice.ensures) c.in-Ok.ensures.found) c.best_within.ensures

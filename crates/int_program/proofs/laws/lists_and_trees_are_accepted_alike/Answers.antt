@@ -1,5 +1,8 @@
-use Rattle.int_program.proofs.CaseLaws.{cases_from_accepts, accepts_from_cases}
+use Rattle.int_program.proofs.CaseLaws.{accepted_alike, fair_alike}
 use Rattle.int_program.proofs.laws.lists_and_trees_are_accepted_alike.Goals as goal
 
-pub returns : goal.returns
-returns c ip known tree = (cases_from_accepts ip known tree, accepts_from_cases ip known tree)
+pub returns-clause-accepted : goal.returns-clause-accepted
+returns-clause-accepted c = accepted_alike
+
+pub returns-clause-fair : goal.returns-clause-fair
+returns-clause-fair c = fair_alike

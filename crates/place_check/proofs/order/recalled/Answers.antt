@@ -7,4 +7,4 @@ use Rattle.place_check.proofs.order.recalled.Goals as goal
 
 pub returns-clause-kept : goal.returns-clause-kept
 returns-clause-kept c =
-    All-set (λ slot. IfSome slot (IsKnown (map seen_unit c.args.units.now))) c.args.kept.now ((c.args.first * 64 + c.args.second) % length c.args.kept.now) (Some c.of-known.result) c.of-known.ensures.known c.requires.kept
+    All-set (λ slot. IfSome slot (IsKnown (map seen_unit c.args.units.now))) c.args.kept.now ((c.args.first % 64 * 64 + c.args.second % 64) % length c.args.kept.now) (Some c.of-known.result) c.of-known.ensures.known c.requires.kept
