@@ -35,7 +35,7 @@ ops = 64
 def chains(turns):
     """A register of symbolic length at each index of a loop, and four units that carry on what is read there."""
     return pipeline(
-        top=f"symbolic int n; symbolic int c; assume(n <= {turns}); maximize(n + c); Register<bit<32>>(c)[n] kept;",
+        top=f"symbolic int n; symbolic int c; assume(n <= {turns}); assume(c <= 1000); maximize(n + c); Register<bit<32>>(c)[n] kept;",
         fields="bit<32> v;",
         metadata="bit<32>[n] place; " + " ".join(f"bit<32>[n] x{i};" for i in range(5)),
         actions="action count[int i]() { meta.place[i] = hash(i, hdr.h.v, c); meta.x0[i] = kept[i].read(meta.place[i]);"

@@ -4,3 +4,4 @@ pub mod TightScan
 pub mod SplitLaws
 pub mod FollowsLaws
 pub mod SettledLaws
+pub mod TrailLaws

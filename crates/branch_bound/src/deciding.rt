@@ -7,9 +7,10 @@ ghost use Rattle.int_program.specs.Points.{IsBetter};
 ghost use Rattle.int_program.specs.Accepts.{goal_fault, split_fault};
 ghost use Rattle.int_program.specs.Fair.{NoRowLeaf, NoTightening, most_above};
 ghost use Rattle.int_program.specs.Places.{opened};
+ghost use Rattle.branch_bound.specs.Trail.{behind, open_places, AreStepsOf};
 ghost use Rattle.branch_bound.specs.Lines.{node_of, AtMost, IsBestKnown, IsStep, IsUnsplit, IsWritten, IsDecided, IsGrown, IsOpenPlace, IsSingle, IsSearchedThrough};
 
-use crate::boxes::open_children;
+use crate::boxes::{next_place, waiting_place};
 use crate::line::Line;
 use crate::open::Open;
 use crate::testing::{closing_row, tightening, try_lowest};
@@ -199,27 +200,29 @@ fn decided(
     }
 }
 
-/// Opens what the line opens at its place.
-fn open_line(
-    alloc: Global,
+/// The place that is open next, after a line at the place before.
+fn go_on(
     ip: &Ip,
     known: Option<i128>,
     place: Place,
     line: &Line,
     waiting: &mut Open,
-) -> Result<(), AllocError>
+) -> Result<Option<Place>, AllocError>
     requires limits { IsInLimits ip.now }
     requires open_place { IsOpenPlace ip.now place }
     requires written { IsWritten ip.now known place line.now }
-    ensures { OnOk result (waiting.new ≡ opened ip.now place (node_of line.now) ++ waiting.old) }
+    requires steps { AreStepsOf (length ip.now.tops) waiting.old }
+    ensures places { IfOk result (λ next.
+        open_places next waiting.new ≡ opened ip.now place (node_of line.now) ++ behind place.within waiting.old) }
+    ensures steps { OnOk result (AreStepsOf (length ip.now.tops) waiting.new) }
 {
     match line {
-        Line::Done(node) => open_children(alloc, ip, known, place, node, waiting),
-        Line::Left { most: _ } => Ok(()),
+        Line::Done(node) => next_place(ip, known, place, node, waiting),
+        Line::Left { most: _ } => waiting_place(place.within, waiting),
     }
 }
 
-/// Writes one line at the place, and answers whether it is a split.
+/// Writes one line at the place, and answers the place that is open next, and whether the line is a split.
 pub(crate) fn write_line(
     alloc: Global,
     ip: &Ip,
@@ -230,17 +233,20 @@ pub(crate) fn write_line(
     place: Place,
     waiting: &mut Open,
     lines: &mut Items<Line>,
-) -> Result<bool, AllocError>
+) -> Result<(Option<Place>, bool), AllocError>
     requires limits { IsInLimits ip.now }
     requires open_place { IsOpenPlace ip.now place }
     requires best_known { IsBestKnown ip.now best.old known.old }
+    requires steps { AreStepsOf (length ip.now.tops) waiting.old }
     ensures at_most { OnOk result (AtMost known.old known.new) }
     ensures best { OnOk result (IsBestKnown ip.now best.new known.new) }
-    ensures grown { IfOk result (IsGrown ip.now known.new may_split place waiting.old waiting.new lines.old lines.new) }
+    ensures grown { IfOk result (λ next. IsGrown ip.now known.new may_split place (behind place.within waiting.old)
+        (open_places next.0 waiting.new) lines.old lines.new next.1) }
+    ensures steps { OnOk result (AreStepsOf (length ip.now.tops) waiting.new) }
 {
     let line = decided(alloc, ip, known, best, may_split, hint, &place)?;
-    open_line(alloc, ip, *known, place, &line, waiting)?;
+    let next = go_on(ip, *known, place, &line, waiting)?;
     let split = line.is_split();
     lines.push(line)?;
-    Ok(split)
+    Ok((next, split))
 }

@@ -2,9 +2,6 @@
 
 ghost use Rattle.std.specs.Prelude.{◌≡◌, ◌≤◌, IfOk, OnOk};
 ghost use Rattle.int_program.specs.Limits.{IsInLimits};
-ghost use Rattle.int_program.specs.Boxes.{root_of};
-ghost use Rattle.int_program.specs.Places.{place as place_of};
-ghost use Rattle.std.specs.Prelude.{[], ◌∷◌};
 ghost use Rattle.branch_bound.specs.Found.{most_splits, IsFound};
 ghost use Rattle.branch_bound.specs.Lines.{IsBestKnown, IsClosed};
 
@@ -26,18 +23,6 @@ struct Closed {
     best: Option<Point>,
     known: Option<i128>,
     lines: Items<Line>,
-}
-
-/// The root box is the one open place.
-fn root_place(alloc: Global, ip: &Ip) -> Result<Open, AllocError>
-    ensures { IfOk result (λ waiting. waiting ≡ place_of (root_of ip.now) 0 ∷ []) }
-{
-    let mut waiting = Open::new(alloc);
-    waiting.push(Place {
-        within: root(alloc, ip)?,
-        above: 0,
-    })?;
-    Ok(waiting)
 }
 
 /// Tries a first point, and answers the value that is known then.
@@ -66,13 +51,17 @@ fn close(alloc: Global, ip: &Ip, limit: u64) -> Result<Closed, AllocError>
     let mut best = None;
     let mut known = try_first(alloc, ip, &table, &mut best)?;
     let mut guide = Guide::new(alloc, ip, &table)?;
-    let mut waiting = root_place(alloc, ip)?;
+    let mut here = Some(Place {
+        within: root(alloc, ip)?,
+        above: 0,
+    });
+    let mut waiting = Open::new(alloc);
     let mut lines = Items::new(alloc);
     let mut splits = 0u64;
-    'places: while let Some(place) = waiting.pop() {
+    'places: while let Some(place) = here {
         let hint = guide.hint(ip, &table, &place, known)?;
         let may_split = splits < limit;
-        if write_line(
+        let (next, split) = write_line(
             alloc,
             ip,
             &mut known,
@@ -82,7 +71,9 @@ fn close(alloc: Global, ip: &Ip, limit: u64) -> Result<Closed, AllocError>
             place,
             &mut waiting,
             &mut lines,
-        )? {
+        )?;
+        here = next;
+        if split {
             splits += 1;
         }
     }

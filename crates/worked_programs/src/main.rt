@@ -3,10 +3,11 @@
 //!
 //! With the words SRC TARGET QUESTIONS it prints the units of a source and a target with the answers to questions; with the words
 //! `--model SRC TARGET` their integer program, with `--count SRC TARGET` how many variables and rows it has, with `--lp SRC TARGET` the
-//! same as a file for other solvers, and with `--search SRC TARGET` what a search of it answers. Without words it compares worked programs with what was worked out apart from
-//! the compiler. Of each program NAME the folder has four files: `NAME.p4`, `NAME.toml`, `NAME.txt`, which has the units, and the
-//! questions with their answers, and `NAME.model`, which has the integer program. Of these only the questions are taken over, as
-//! `questions` says; all other lines are computed, and the whole texts are compared with the files.
+//! same as a file for other solvers, and with `--search SRC TARGET` what a search of it answers. Without words it compares worked
+//! programs with what was worked out apart from the compiler. Of each program NAME the folder has four files: `NAME.p4`, `NAME.toml`,
+//! `NAME.txt`, which has the units, and the questions with their answers, and `NAME.model`, which has the integer program. Of these
+//! only the questions are taken over, as `questions` says; all other lines are computed, and the whole texts are compared with the
+//! files.
 #![tactic(auto)]
 
 mod answers;

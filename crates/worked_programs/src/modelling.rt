@@ -123,3 +123,70 @@ pub fn modelled(alloc: Global, source: &str, target: &str, form: Form) -> Result
     }
     Ok(lines)
 }
+
+#[cfg(test)]
+mod tests {
+    use super::*;
+    use std::test::Fail;
+
+    /// Two registers, whose cells are the sizes of two symbols.
+    const SOURCE: &str =
+        "symbolic int a; symbolic int b; assume(b >= 5); maximize(3*a + 2*b); header h_t { bit<8> v; } struct headers_t { h_t h; } struct meta_t { bit<32> x; bit<32> y; } Register<bit<32>>(a) ra; Register<bit<32>>(b) rb;
+parser P(packet_in pkt, out headers_t hdr, inout meta_t meta, inout std_t std) {
+  state start { pkt.extract(hdr.h); transition accept; } }
+control C(inout headers_t hdr, inout meta_t meta, inout std_t std) {  apply { meta.x = ra.read(0); meta.y = rb.read(0); } }
+control D(packet_out pkt, in headers_t hdr) { apply { pkt.emit(hdr.h); } }
+Pisa(P(), C(), D()) main;
+";
+
+    /// One stage.
+    const TARGET: &str = "stages = 1
+memory_bits = 1024
+stateful = 2
+stateless = 8
+table_bits = 1024
+ternary_bits = 1024
+header_bits = 512
+ops = 8
+";
+
+    /// The row of the header bits is the one behind those of the sizes, and five rows stand at the end for the stage.
+    const MODEL: &str = "bound a 32
+bound b 32
+variables 6
+0 size a top 32
+1 size b top 32
+2 x 0 0 0 top 1
+3 x 1 0 0 top 1
+4 c 0 0 0 top 32
+5 c 1 0 0 top 32
+rows 17
+fnv 576d4b618f19474c
+row 0 1:-1 <= -5
+row 1 0:-1 <= -1
+row 2 1:-1 <= -1
+row 3 <= 439
+row 4 2:1 <= 1
+row 5 2:-1 <= -1
+row 6 3:1 <= 1
+row 7 3:-1 <= -1
+row 8 2:-32 4:1 <= 0
+row 9 0:1 4:-1 <= 0
+row 10 3:-32 5:1 <= 0
+row 11 1:1 5:-1 <= 0
+row 12 2:1 3:1 <= 2
+row 13 2:1 3:1 <= 8
+row 14 4:32 5:32 <= 1024
+row 15 <= 1024
+row 16 <= 1024
+goal 0:3 1:2
+base 0
+";
+
+    #[test]
+    fn the_header_row_is_the_fourth_and_each_stage_has_five(rt: HostRuntime) -> Result<(), Fail> {
+        let lines = modelled(rt.alloc(), SOURCE, TARGET, Form::Model).expect(&rt, "ample memory");
+        assert_eq!(rt; lines.bytes(), MODEL.as_bytes());
+        Ok(())
+    }
+}

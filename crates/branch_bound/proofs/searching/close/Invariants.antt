@@ -1,12 +1,15 @@
+use Rattle.std.proofs.Common.{length}
 use Rattle.branch_bound.specs.Lines.{IsBestKnown}
+use Rattle.branch_bound.specs.Trail.{open_places, AreStepsOf}
 use Rattle.branch_bound.proofs.FollowsLaws.{Keeps, work_left}
 use Rattle.branch_bound.proofs.searching.close.Given as goal
 
 abbrev pub invariant-places : goal.invariant-places
 invariant-places l = record {
-  keeps : Keeps l.ip l.known l.limit l.waiting l.lines l.splits;
+  keeps : Keeps l.ip l.known l.limit (open_places l.here l.waiting) l.lines l.splits;
   best_known : IsBestKnown l.ip l.best l.known;
+  steps : AreStepsOf (length l.ip.tops) l.waiting;
 }
 
 abbrev pub decreases-places : goal.decreases-places
-decreases-places l = work_left l.limit l.splits l.waiting
+decreases-places l = work_left l.limit l.splits (open_places l.here l.waiting)

@@ -1,0 +1,14 @@
+use Rattle.std.proofs.Common.{◌≡◌, length}
+use Rattle.branch_bound.specs.Trail.{behind, AreStepsOf}
+use Rattle.branch_bound.proofs.open.Open.next.Given as goal
+
+abbrev pub invariant-steps : goal.invariant-steps
+invariant-steps l = record {
+  behind_is : behind l.within l.self ≡ behind l.initial.within l.initial.self;
+  low_count : length l.within.low ≡ length l.initial.within.low;
+  high_count : length l.within.high ≡ length l.initial.within.low;
+  steps : AreStepsOf (length l.initial.within.low) l.self;
+}
+
+abbrev pub decreases-steps : goal.decreases-steps
+decreases-steps l = length l.self
