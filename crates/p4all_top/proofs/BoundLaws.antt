@@ -12,11 +12,10 @@ use Rattle.unroll_bound.specs.ProgramUnits.{units_of_program}
 use Rattle.unroll_bound.specs.UnitBounds.{bound_of_units}
 use Rattle.unroll_bound.specs.declared.unit_bounds.What.{What}
 use Rattle.unroll_bound.specs.declared.unit_bounds.What.TheVariants as what
-use Rattle.box_listing.specs.Choice.{AreBoundsOf, IsBounded, IsUnbounded, IsLarge, IsNotYet}
-use Rattle.box_listing.specs.Listing.{points_in, most_points}
+use Rattle.size_search.specs.Choice.{AreBoundsOf, IsUnbounded, IsLarge}
 
 -- units have one list of bounds on a target
-one_bounds : (units : PlainUnits) (on : Target) (bounds other : List ℕ) → HaveBounds units on bounds → HaveBounds units on other → bounds ≡ other
+pub one_bounds : (units : PlainUnits) (on : Target) (bounds other : List ℕ) → HaveBounds units on bounds → HaveBounds units on other → bounds ≡ other
 one_bounds units on bounds other a b =
     same_number_lists bounds other (a.dense ∙ sym b.dense)
     (λ k h. let within : k < length units.terms.symbols = let d = a.dense in omega (arith, d, h) in same (get_or bounds k 0) (get_or other k 0) (sym (a.each k within) ∙ b.each k within))
@@ -59,14 +58,3 @@ pub never_large : (decls : PlainProgram) (on : Target) (bounds : List ℕ) (part
 never_large decls on bounds part count are large =
     let same = one_bounds (units_of_program decls) on large.bounds bounds large.found are.found in
     none_more (units_of_program decls) on bounds part count are (subst (λ (z : List ℕ). IsMoreAt (units_of_program decls) on z part count) same large.more)
-
--- what is chosen is built or not
-pub never_both : (decls : PlainProgram) (on : Target) → IsBounded decls on → IsNotYet decls on → ⊥
-never_both decls on few not = by not.cause
-  where
-    by : (has DeclKind.Main decls ≡ true) ⊎ (most_points < points_in not.bounds) → ⊥
-    by (inl main) = absurd (true≢false (sym main ∙ few.no_main))
-    by (inr many) =
-        let e : points_in few.bounds ≡ points_in not.bounds = ap points_in (one_bounds (units_of_program decls) on few.bounds not.bounds few.are_bounds.found not.are_bounds.found) in
-        let listable = few.listable in
-        absurd (omega (arith, e, listable, many))

@@ -12,11 +12,13 @@ use Rattle.p4all_top.specs.declared.status.Status.TheVariants as status
 use Rattle.p4all_top.specs.Answer.{Answer, AreTaken}
 use Rattle.p4all_top.specs.Command.{Size}
 use Rattle.p4all_top.specs.Description.{IsDescription, IsNoDescription, IsTargetRefused}
-use Rattle.p4all_top.specs.Ending.{MustEnd, EndsOn, EndsBy}
+use Rattle.p4all_top.specs.Ending.{MustEnd, MustEndWithin, EndsOn, EndsBy}
+use Rattle.int_program.specs.Counting.{root_points}
+use Rattle.size_search.specs.Choice.{ip_of_program}
 use Rattle.p4all_top.specs.Limits.{most_source}
 use Rattle.p4all_top.specs.Source.{IsProgram, IsNoSource}
 use Rattle.p4all_top.specs.Stopping.{IsStop}
-use Rattle.p4all_top.proofs.ProgramEnds.{answers_best, answers_infeasible, answers_large, answers_not_yet, answers_unbounded, answers_unit}
+use Rattle.p4all_top.proofs.ProgramEnds.{answers_best, answers_infeasible, answers_large, answers_unbounded, answers_unfinished, answers_unit}
 use Rattle.p4all_top.proofs.SourceLaws.{refused_source}
 
 one_target : (text : List ℕ) (one other : Target) → IsTargetText text one → IsTargetText text other → one ≡ other
@@ -53,8 +55,9 @@ ends_both source target decls on ended taken ends = record {
 
 -- what a source and a description make of the end
 pub ends_by : (source target text description : List ℕ) (ended : Status) (set : List (List ℕ × List ℕ)) (printed : List ℕ) → Answer (Size source target) (text ∷ description ∷ []) ended set printed → EndsBy text description ended
-ends_by source target text description status.Done set printed (_, a) = ends_both text description a.decls a.on status.Done a.taken (answers_best a.decls a.on a.fits a.bounded a.sizes a.best.feasible)
-ends_by source target text description status.Infeasible set printed (_, a) = ends_both text description a.decls a.on status.Infeasible a.taken (answers_infeasible a.decls a.on a.fits a.bounded a.none)
+ends_by source target text description status.Done set printed (_, a) = ends_both text description a.decls a.on status.Done a.taken (answers_best a.decls a.on a.fits a.placed a.tree a.best)
+ends_by source target text description status.Infeasible set printed (_, a) = ends_both text description a.decls a.on status.Infeasible a.taken (answers_infeasible a.decls a.on a.fits a.tree a.none)
+ends_by source target text description status.Unfinished set printed (_, a) = ends_both text description a.decls a.on status.Unfinished a.taken (answers_unfinished a.decls a.on a.fits a.best a.tree a.unfinished)
 ends_by source target text description status.Refused set printed (_, inl a) = record {
   no_source = λ bad. refl;
   no_target = λ bad. refl;
@@ -67,8 +70,7 @@ ends_by source target text description status.Refused set printed (_, inr (inl a
 }
 ends_by source target text description status.Refused set printed (_, inr (inr (inl a))) = ends_both text description a.decls a.on status.Refused a.taken (answers_unit a.decls a.on a.unit a.ops a.first)
 ends_by source target text description status.Refused set printed (_, inr (inr (inr (inl a)))) = ends_both text description a.decls a.on status.Refused a.taken (answers_unbounded a.decls a.on a.place a.unbounded)
-ends_by source target text description status.Refused set printed (_, inr (inr (inr (inr (inl a))))) = ends_both text description a.decls a.on status.Refused a.taken (answers_large a.decls a.on a.what a.count a.large)
-ends_by source target text description status.Refused set printed (_, inr (inr (inr (inr (inr a))))) = ends_both text description a.decls a.on status.Refused a.taken (answers_not_yet a.decls a.on a.cause)
+ends_by source target text description status.Refused set printed (_, inr (inr (inr (inr a)))) = ends_both text description a.decls a.on status.Refused a.taken (answers_large a.decls a.on a.what a.count a.large)
 ends_by source target text description _ set printed a = absurd a
 
 -- a run that was stopped may be one of any source and description
@@ -78,11 +80,10 @@ may_stop source target ended stopped = record {
   no_target = λ bad. any status.Refused ended stopped;
   both = λ decls on short program described. record {
     too_large = λ bad. any status.Refused ended stopped;
-    not_yet = λ cause. any status.Refused ended stopped;
     unbounded = λ place u. any status.Refused ended stopped;
     large = λ part count l. any status.Refused ended stopped;
-    best = λ _ bounded sizes placement feasible. any status.Done ended stopped;
-    none = λ _ bounded infeasible. any status.Infeasible ended stopped;
+    best = λ _ bounds are sizes placement feasible. within (root_points (ip_of_program decls on bounds)) status.Done ended stopped;
+    none = λ _ bounds are infeasible. within (root_points (ip_of_program decls on bounds)) status.Infeasible ended stopped;
   };
 }
   where
@@ -90,3 +91,8 @@ may_stop source target ended stopped = record {
     any expected status.Memory stopped = tt
     any expected status.Fault stopped = tt
     any expected _ stopped = absurd stopped
+
+    within : (points : ℕ) (expected ended : Status) → IsStop ended → MustEndWithin points expected ended
+    within points expected status.Memory stopped = tt
+    within points expected status.Fault stopped = tt
+    within points expected _ stopped = absurd stopped

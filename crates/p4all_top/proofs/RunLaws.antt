@@ -33,6 +33,7 @@ found_ends source target held outcome found = ends outcome.status outcome.lines 
     ends : (ended : Status) (lines : List ℕ) → Answer (Size source target) (found.text ∷ found.description ∷ []) ended [] lines → IsEnd ended
     ends status.Done lines a = tt
     ends status.Infeasible lines a = tt
+    ends status.Unfinished lines a = tt
     ends status.Refused lines a = tt
     ends _ lines a = absurd a
 

@@ -1,20 +1,24 @@
 -- The answer of each command: for what the files that it reads hold, the status that it ends with, the files that it sets
 -- and the text that it prints, with the cause; this project's own.
-use Rattle.std.specs.Prelude.{◌≡◌, ◌⊎◌, ℕ, List, [], ◌∷◌, slice_get, Some}
+use Rattle.std.specs.Prelude.{◌≡◌, ◌⊎◌, ℕ, List, [], ◌∷◌, slice_get, Option, Some}
 use Rattle.elastic_ast.specs.Tree.{Name, PlainProgram}
-use Rattle.elastic_ast.specs.Sizes.SizeSums.{symbols_of, utility}
+use Rattle.elastic_ast.specs.Sizes.SizeSums.{symbols_of}
 use Rattle.elastic_ast.specs.Units.UnitsOf.{OpsFit, units_of}
 use Rattle.target_desc.specs.declared.target.Target.{Target}
 use Rattle.unroll_bound.specs.declared.unit_bounds.What.{What}
 use Rattle.p4all_top.specs.declared.parsing.Refusal.{Refusal}
 use Rattle.p4all_top.specs.declared.status.Status.{Status}
 use Rattle.p4all_top.specs.declared.status.Status.TheVariants as status
-use Rattle.box_listing.specs.Choice.{IsBounded, IsNotYet, IsUnbounded, IsLarge}
+use Rattle.cert_text.specs.declared.claim.Claim.{Claim}
+use Rattle.int_program.specs.declared.program.Tree.{Tree}
+use Rattle.size_search.specs.declared.choosing.Placed.{Placed}
+use Rattle.size_search.specs.Choice.{known_of, IsBestChoice, IsInfeasibleChoice, IsUnfinishedChoice, IsUnbounded, IsLarge}
 use Rattle.unit_flow.specs.TooLarge.{IsFirstAbove}
 use Rattle.p4all_top.specs.Command.{Command, Size}
 use Rattle.p4all_top.specs.Description.{IsDescription, IsTargetRefused}
-use Rattle.dep_graph.specs.Optimum.{Best, Infeasible}
-use Rattle.p4all_top.specs.Printed.{sizes_text, infeasible_text, unit_text, unbounded_text, large_text, notyet_text, refusal_text}
+use Rattle.p4all_top.specs.Limits.{size_splits}
+use Rattle.p4all_top.specs.Unfinished.{IsUnfinishedClaim, unfinished_text}
+use Rattle.p4all_top.specs.Printed.{sizes_text, infeasible_text, unit_text, unbounded_text, large_text, refusal_text}
 use Rattle.p4all_top.specs.Source.{IsSource, IsSourceRefused}
 
 -- the source is taken, with this program, and so is the description, with this target
@@ -28,10 +32,10 @@ pub record PrintsBest (source target printed : List ℕ) : Type 0 where
   pub on : Target
   pub taken : AreTaken source target decls on
   pub fits : OpsFit decls on.ops
-  pub bounded : IsBounded decls on
-  pub sizes : List ℕ
-  pub best : Best decls on sizes []
-  pub lines : printed ≡ sizes_text (symbols_of decls) sizes (utility decls sizes)
+  pub placed : Placed
+  pub tree : Tree
+  pub best : IsBestChoice decls on size_splits placed tree
+  pub lines : printed ≡ sizes_text (symbols_of decls) placed.sizes.values placed.utility
 
 -- infeasible: the line says that no sizes are feasible, and none are
 pub record PrintsInfeasible (source target printed : List ℕ) : Type 0 where
@@ -39,9 +43,22 @@ pub record PrintsInfeasible (source target printed : List ℕ) : Type 0 where
   pub on : Target
   pub taken : AreTaken source target decls on
   pub fits : OpsFit decls on.ops
-  pub bounded : IsBounded decls on
-  pub none : Infeasible decls on
+  pub tree : Tree
+  pub none : IsInfeasibleChoice decls on size_splits tree
   pub line : printed ≡ infeasible_text
+
+-- unfinished: the lines show how many splits were made, the greatest utility that was found, and the certificate of this
+pub record PrintsUnfinished (source target printed : List ℕ) : Type 0 where
+  pub decls : PlainProgram
+  pub on : Target
+  pub taken : AreTaken source target decls on
+  pub fits : OpsFit decls on.ops
+  pub best : Option Placed
+  pub tree : Tree
+  pub unfinished : IsUnfinishedChoice decls on size_splits best tree
+  pub claim : Claim
+  pub claimed : IsUnfinishedClaim (symbols_of decls) best claim
+  pub lines : printed ≡ unfinished_text size_splits (known_of best) claim tree
 
 -- a unit is too large: the line names the first unit of the program that has more operators than the target allows, and how many
 -- it has
@@ -77,15 +94,6 @@ pub record RefusesLarge (source target printed : List ℕ) : Type 0 where
   pub large : IsLarge decls on what count
   pub line : printed ≡ large_text what count
 
--- not yet: the line gives up, since what is chosen isn't built yet
-pub record RefusesNotYet (source target printed : List ℕ) : Type 0 where
-  pub decls : PlainProgram
-  pub on : Target
-  pub taken : AreTaken source target decls on
-  pub fits : OpsFit decls on.ops
-  pub cause : IsNotYet decls on
-  pub line : printed ≡ notyet_text
-
 -- the line refuses the source, which isn't taken for this cause
 pub record RefusesSource (source printed : List ℕ) : Type 0 where
   pub why : Refusal
@@ -104,7 +112,8 @@ pub record RefusesTarget (source target printed : List ℕ) : Type 0 where
 abbrev pub Answer : Command → List (List ℕ) → Status → List (List ℕ × List ℕ) → List ℕ → Type 0
 Answer (Size _ _) (source ∷ target ∷ []) status.Done set printed = (set ≡ []) × PrintsBest source target printed
 Answer (Size _ _) (source ∷ target ∷ []) status.Infeasible set printed = (set ≡ []) × PrintsInfeasible source target printed
+Answer (Size _ _) (source ∷ target ∷ []) status.Unfinished set printed = (set ≡ []) × PrintsUnfinished source target printed
 Answer (Size _ _) (source ∷ target ∷ []) status.Refused set printed =
     (set ≡ [])
-    × (RefusesSource source printed ⊎ RefusesTarget source target printed ⊎ RefusesUnit source target printed ⊎ RefusesUnbounded source target printed ⊎ RefusesLarge source target printed ⊎ RefusesNotYet source target printed)
+    × (RefusesSource source printed ⊎ RefusesTarget source target printed ⊎ RefusesUnit source target printed ⊎ RefusesUnbounded source target printed ⊎ RefusesLarge source target printed)
 Answer (Size _ _) _ _ set printed = ⊥

@@ -11,6 +11,7 @@ pub mod Description
 pub mod Limits
 -- The lines that are printed.
 pub mod Printed
+pub mod Unfinished
 pub mod RuleNames
 -- What the steps of a run answer.
 pub mod Reading

@@ -10,6 +10,10 @@ most_source = most_text
 abbrev pub most_target : ℕ
 most_target = 65536
 
+-- the most splits of boxes that `size` makes
+abbrev pub size_splits : ℕ
+size_splits = 100000
+
 -- a text is taken: it has no more bytes than it may have, and says this
 pub record IsTaken {A : Type 0} (most : ℕ) (Says : List ℕ → A → Type 0) (text : List ℕ) (x : A) : Type 0 where
   pub short : length text ≤ most

@@ -61,10 +61,6 @@ what_text what.Rows = codes "rows"
 abbrev pub large_text : What → ℕ → List ℕ
 large_text part count = with_end (with_number (begun_cause (codes "large") (what_text part)) (pos count))
 
--- the line that gives up where what is chosen isn't built yet
-abbrev pub notyet_text : List ℕ
-notyet_text = with_end (begun_refusal (codes "notyet"))
-
 -- the line `refused src CAUSE PLACE`
 abbrev pub source_text : List ℕ → ℕ → List ℕ
 source_text cause place = with_end (with_number (begun_cause (codes "src") cause) (pos place))

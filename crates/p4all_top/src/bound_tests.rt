@@ -23,7 +23,7 @@ const ROOMY: &str = "stages = 64\nmemory_bits = 1000000\nstateful = 1024\nstatel
     table_bits = 0\nternary_bits = 0\nheader_bits = 1000000\nops = 4\n";
 
 /// Declarations in front, metadata and a body of a control, and the line that refuses the program for its bounds.
-const BOUNDED: [(&str, &str, &str, &str); 5] = [
+const BOUNDED: [(&str, &str, &str, &str); 4] = [
     // The row bounds `s`, and no other rule does.
     (
         "symbolic int s; assume(s <= 600000000 + 600000000);",
@@ -54,13 +54,6 @@ const BOUNDED: [(&str, &str, &str, &str); 5] = [
         "bit<8> x;",
         "for (i < n) { meta.x = meta.x + 1; meta.x = meta.x ^ hdr.h.v; }",
         "refused large rows 520834\n",
-    ),
-    // All is taken, and what a program with `main` is given isn't built yet.
-    (
-        "symbolic int n; assume(n <= 4);",
-        "bit<8> x;",
-        "for (i < n) { meta.x = meta.x + 1; }",
-        "refused notyet\n",
     ),
 ];
 

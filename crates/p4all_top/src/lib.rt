@@ -10,6 +10,10 @@ mod reading;
 mod rule_names;
 #[cfg(test)]
 mod rule_tests;
+#[cfg(test)]
+mod run_tests;
+#[cfg(test)]
+mod search_tests;
 mod size_command;
 #[cfg(test)]
 mod size_tests;
@@ -17,6 +21,9 @@ mod sizing;
 mod status;
 mod stopping;
 mod top;
+mod unfinished;
+#[cfg(test)]
+mod unit_tests;
 
 pub use size_command::do_size;
 pub use status::{Status, code};

@@ -2,7 +2,7 @@
 
 ghost use Rattle.std.specs.Prelude.{◌≡◌, ◌≤◌, ◌<◌, ◌^◌, length, IfOk, OnOk};
 ghost use Rattle.p4all_top.specs.Printed.{with_size, with_utility, sizes_text, infeasible_text, unit_text, unbounded_text, what_text, large_text};
-ghost use Rattle.p4all_top.specs.Printed.{notyet_text, begun_cause, begun_refusal, begun_rule, refused_text, source_text, rule_line_text, target_text, refusal_text};
+ghost use Rattle.p4all_top.specs.Printed.{begun_cause, begun_refusal, begun_rule, refused_text, source_text, rule_line_text, target_text, refusal_text};
 
 use crate::parsing::Refusal;
 use crate::rule_names::rule_name;
@@ -184,15 +184,6 @@ fn rule_line(alloc: Global, rule: Rule, decl: u32) -> Result<Lines, AllocError>
 {
     let mut lines = rule_begun(alloc, rule)?;
     lines.number(i128::from(decl))?;
-    lines.end()?;
-    Ok(lines)
-}
-
-/// The line that gives up where what is chosen isn't built yet.
-pub fn notyet_line(alloc: Global) -> Result<Lines, AllocError>
-    ensures { IfOk result (λ lines. lines ≡ notyet_text) }
-{
-    let mut lines = refusal_begun(alloc, b"notyet")?;
     lines.end()?;
     Ok(lines)
 }

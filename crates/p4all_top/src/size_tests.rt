@@ -6,12 +6,12 @@ use elx_io::{MemShelf, MemSink};
 use std::alloc::{AllocError, Global};
 use std::test::Fail;
 
-const ROWS_AND_COLS: &str =
+pub const ROWS_AND_COLS: &str =
     "symbolic int rows; symbolic int cols; assume(rows >= 1 && rows <= 3); assume(cols <= 100); \
     struct meta_t { bit<16>[rows] idx; } maximize(10*rows + cols);";
 
 /// A target with one stage, these header bits and this number of operators.
-fn one_stage_with(alloc: Global, header_bits: u32, ops: u32) -> Result<String, AllocError> {
+pub fn one_stage_with(alloc: Global, header_bits: u32, ops: u32) -> Result<String, AllocError> {
     format!(in alloc;
         "stages = 1\nmemory_bits = 1024\nstateful = 2\nstateless = 8\ntable_bits = 1024\n\
         ternary_bits = 1024\nheader_bits = {header_bits}\nops = {ops}\n"
@@ -24,7 +24,7 @@ pub fn one_stage(alloc: Global, header_bits: u32) -> Result<String, AllocError> 
 }
 
 /// Runs `size` on a source and a target's description, where the calls of the shelf with these numbers fail.
-fn run(
+pub fn run(
     alloc: Global,
     source: &[u8],
     target: &[u8],
@@ -160,10 +160,10 @@ const ROWS: [(&str, u32, Status, &str); 26] = [
         "size a 999\nsize b 999\nutility 2997\n",
     ),
     (
-        "symbolic int a; symbolic int b; assume(a <= 1000 && b < 1000); maximize(a);",
+        "symbolic int a; symbolic int b; assume(a <= 1000 && b < 1000); maximize(a + b);",
         20,
-        Status::Refused,
-        "refused notyet\n",
+        Status::Done,
+        "size a 1000\nsize b 999\nutility 1999\n",
     ),
     (
         "symbolic int a; symbolic int b; assume(a <= 3); maximize(a);",
@@ -276,7 +276,7 @@ fn a_description_is_refused_for_its_first_cause(rt: HostRuntime) -> Result<(), F
 }
 
 /// A source, and the line that refuses it.
-const REFUSED: [(&str, &str); 17] = [
+const REFUSED: [(&str, &str); 16] = [
     ("a $", "refused src byte 2\n"),
     ("const bit<8> a = 129w1;", "refused src number 17\n"),
     ("/*", "refused src comment 0\n"),
@@ -310,10 +310,6 @@ const REFUSED: [(&str, &str); 17] = [
     (
         "header h_t { bit<8> v; } maximize(x);",
         "refused src rule UnknownName 1\n",
-    ),
-    (
-        "symbolic int s; assume(s <= 1000000); maximize(0 - s);",
-        "refused notyet\n",
     ),
 ];
 
@@ -351,160 +347,4 @@ pub fn whole_with(
         control D(packet_out pkt, in headers_t hdr) {{ apply {{ pkt.emit(hdr.h); }} }}\n\
         Pisa(P(), C(), D()) main;\n"
     )
-}
-
-/// A whole program whose control has this body.
-fn whole(alloc: Global, body: &str) -> Result<String, AllocError> {
-    whole_with(alloc, "", "", body)
-}
-
-/// A whole program whose control assigns in so many conditions, each in the one before.
-fn nested(alloc: Global, conditions: usize) -> Result<String, AllocError> {
-    let opened = "if (hdr.h.v == 0) {".repeat(alloc, conditions)?;
-    let closed = "}".repeat(alloc, conditions)?;
-    let body = format!(in alloc; "{opened} hdr.h.v = 1; {closed}")?;
-    whole(alloc, body.as_str())
-}
-
-const GUARDED: &str = "if (hdr.h.v == 3 && hdr.h.v != 1) { hdr.h.v = (hdr.h.v + 1) ^ hdr.h.v; }";
-
-const RISING: &str = "hdr.h.v = 1; hdr.h.v = hdr.h.v + 1 + 2; hdr.h.v = hdr.h.v + 1 + 2 + 3;";
-
-/// A body of a control, how many operators a unit may have, and the line that refuses the program.
-const BODIES: [(&str, u32, &str); 7] = [
-    ("hdr.h.v = hdr.h.v + 1;", 0, "refused unit 0 1\n"),
-    ("hdr.h.v = 1;", 0, "refused notyet\n"),
-    (RISING, 1, "refused unit 1 2\n"),
-    (RISING, 2, "refused unit 2 3\n"),
-    (RISING, 3, "refused notyet\n"),
-    (GUARDED, 4, "refused unit 0 5\n"),
-    (GUARDED, 5, "refused notyet\n"),
-];
-
-#[test]
-fn the_first_unit_with_too_many_operators_is_refused(rt: HostRuntime) -> Result<(), Fail> {
-    for (body, ops, line) in BODIES {
-        let source = whole(rt.alloc(), body)?;
-        let target = one_stage_with(rt.alloc(), 512, ops)?;
-        let refused = refuses(rt.alloc(), source.as_bytes(), target.as_bytes(), line)?;
-        assert!(rt; refused, "{body} with {ops}");
-    }
-    Ok(())
-}
-
-#[test]
-fn a_large_unit_is_refused_behind_the_target_and_before_the_bounds(
-    rt: HostRuntime,
-) -> Result<(), Fail> {
-    let source = whole_with(rt.alloc(), "symbolic int s;", "", RISING)?;
-    let few = one_stage_with(rt.alloc(), 512, 1)?;
-    let more = one_stage_with(rt.alloc(), 512, 3)?;
-    let rows = [
-        (
-            "stages = 1\nops = 1\n",
-            "refused target missing memory_bits\n",
-        ),
-        (few.as_str(), "refused unit 1 2\n"),
-        (more.as_str(), "refused unbounded s\n"),
-    ];
-    for (target, line) in rows {
-        let refused = refuses(rt.alloc(), source.as_bytes(), target.as_bytes(), line)?;
-        assert!(rt; refused, "{line}");
-    }
-    Ok(())
-}
-
-#[test]
-fn eighty_brackets_may_be_open_and_no_more(rt: HostRuntime) -> Result<(), Fail> {
-    let target = one_stage(rt.alloc(), 512)?;
-    for (conditions, line) in [(78, "refused unit 0 155\n"), (79, "refused src deep 934\n")] {
-        let source = nested(rt.alloc(), conditions)?;
-        let refused = refuses(rt.alloc(), source.as_bytes(), target.as_bytes(), line)?;
-        assert!(rt; refused, "{conditions}");
-    }
-    Ok(())
-}
-
-#[test]
-fn files_may_have_their_limits_and_no_byte_more(rt: HostRuntime) -> Result<(), Fail> {
-    let target = one_stage(rt.alloc(), 64)?;
-    let mut source = vec![in rt.alloc(); b' '; 16_777_216]?;
-    let (ended, _) = run(rt.alloc(), source.as_slice(), target.as_bytes(), &[])?;
-    assert_eq!(rt; ended, Status::Done);
-    source.push(b' ')?;
-    let refused = refuses(
-        rt.alloc(),
-        source.as_slice(),
-        target.as_bytes(),
-        "refused long src\n",
-    )?;
-    assert!(rt; refused);
-    let mut text = vec![in rt.alloc(); b'\n'; 65_536 - target.len().min(65_536)]?;
-    text.extend_from_slice(target.as_bytes())?;
-    let (ended, _) = run(rt.alloc(), b"", text.as_slice(), &[])?;
-    assert_eq!(rt; ended, Status::Done);
-    text.push(b'\n')?;
-    let refused = refuses(rt.alloc(), b"", text.as_slice(), "refused long target\n")?;
-    assert!(rt; refused);
-    Ok(())
-}
-
-#[test]
-fn a_fault_ends_the_run_and_prints_nothing(rt: HostRuntime) -> Result<(), Fail> {
-    let target = one_stage(rt.alloc(), 64)?;
-    for call in [1, 2] {
-        let (ended, out) = run(
-            rt.alloc(),
-            ROWS_AND_COLS.as_bytes(),
-            target.as_bytes(),
-            &[call],
-        )?;
-        assert_eq!(rt; ended, Status::Fault, "{call}");
-        assert_eq!(rt; out.bytes(), b"".as_slice(), "{call}");
-    }
-    let (ended, _) = run(rt.alloc(), b"maximize(7);", target.as_bytes(), &[3])?;
-    assert_eq!(rt; ended, Status::Done, "a run reads twice");
-    Ok(())
-}
-
-#[test]
-fn a_bad_source_is_refused_before_the_target_is_read(rt: HostRuntime) -> Result<(), Fail> {
-    let target = one_stage(rt.alloc(), 64)?;
-    let (ended, out) = run(rt.alloc(), b"a $", target.as_bytes(), &[2])?;
-    assert_eq!(rt; ended, Status::Refused);
-    assert_eq!(rt; out.bytes(), b"refused src byte 2\n".as_slice());
-    Ok(())
-}
-
-#[test]
-fn a_sink_that_fails_ends_the_run(rt: HostRuntime) -> Result<(), Fail> {
-    let mut shelf = MemShelf::new(rt.alloc(), Items::new(rt.alloc()));
-    shelf.put_file("src", b"maximize(7);")?;
-    shelf.put_file("target", one_stage(rt.alloc(), 64)?.as_bytes())?;
-    let mut out = MemSink::new(rt.alloc(), Items::from_vec([1].to_vec(rt.alloc())?));
-    let words = ["size", "src", "target"];
-    let ended = p4all(rt.alloc(), words.as_slice(), &mut shelf, &mut out);
-    assert_eq!(rt; ended, Status::Fault);
-    let again = p4all(rt.alloc(), words.as_slice(), &mut shelf, &mut out);
-    assert_eq!(rt; again, Status::Done);
-    Ok(())
-}
-
-#[test]
-fn other_words_are_no_command(rt: HostRuntime) -> Result<(), Fail> {
-    let mut shelf = MemShelf::new(rt.alloc(), Items::new(rt.alloc()));
-    let mut out = MemSink::new(rt.alloc(), Items::new(rt.alloc()));
-    let rows: [&[&str]; 5] = [
-        &[],
-        &["size"],
-        &["size", "a"],
-        &["size", "a", "b", "c"],
-        &["sizes", "a", "b"],
-    ];
-    for words in rows {
-        let ended = p4all(rt.alloc(), words, &mut shelf, &mut out);
-        assert_eq!(rt; ended, Status::Words, "{words:?}");
-    }
-    assert_eq!(rt; out.bytes(), b"".as_slice());
-    Ok(())
 }

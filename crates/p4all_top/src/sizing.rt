@@ -4,25 +4,29 @@ ghost use Rattle.std.specs.Prelude.{◌≡◌, IfOk, length};
 ghost use Rattle.elastic_ast.specs.Seen.{seen_decls};
 ghost use Rattle.elastic_ast.specs.Units.SeenUnits.{seen_units};
 ghost use Rattle.elastic_ast.specs.Units.UnitsOf.{OpsFit};
-ghost use Rattle.box_listing.specs.Choice.{AreKnownUnits};
+ghost use Rattle.unroll_bound.specs.ProgramUnits.{AreKnownUnits};
 ghost use Rattle.target_desc.specs.InRange.{IsInRange};
 ghost use Rattle.p4all_top.specs.Printed.{refusal_text, unit_text};
 ghost use Rattle.p4all_top.specs.Shown.{FitsSymbols, IsAnswerFor, ShowsChoice};
 
 use crate::parsing::Refusal;
 use crate::printing::{
-    infeasible_line, large_line, notyet_line, refusal_line, sizes_lines, unbounded_line, unit_line,
+    infeasible_line, large_line, refusal_line, sizes_lines, unbounded_line, unit_line,
 };
 use crate::status::Status;
-use box_listing::{Choice, choose};
+use crate::unfinished::unfinished_lines;
 use elastic_ast::Units;
 use elx_bits::Name;
 use elx_io::Lines;
+use size_search::{Choice, choose};
 use size_terms::terms;
 use std::alloc::{AllocError, Global};
 use target_desc::Target;
 use unit_flow::{UnitError, units};
 use width_check::Checked;
+
+/// The most splits of boxes that `size` makes.
+const SIZE_SPLITS: u64 = 100_000;
 
 /// The lines that a run prints, and the status that it ends with.
 #[derive(Drop)]
@@ -61,11 +65,15 @@ fn outcome_of(alloc: Global, symbols: &[Name], choice: Choice) -> Result<Outcome
     ensures { IfOk result (ShowsChoice symbols.now choice) }
 {
     let (status, lines) = match choice {
-        Choice::Best { sizes, utility } => {
-            let lines = sizes_lines(alloc, symbols, sizes.values.as_slice(), utility)?;
+        Choice::Best { best, tree: _tree } => {
+            let lines = sizes_lines(alloc, symbols, best.sizes.values.as_slice(), best.utility)?;
             (Status::Done, lines)
         }
-        Choice::Infeasible => (Status::Infeasible, infeasible_line(alloc)?),
+        Choice::Unfinished { best, tree } => {
+            let lines = unfinished_lines(alloc, SIZE_SPLITS, symbols, best, &tree)?;
+            (Status::Unfinished, lines)
+        }
+        Choice::Infeasible { tree: _tree } => (Status::Infeasible, infeasible_line(alloc)?),
         Choice::Unbounded { symbol } => {
             (
                 Status::Refused,
@@ -73,7 +81,6 @@ fn outcome_of(alloc: Global, symbols: &[Name], choice: Choice) -> Result<Outcome
             )
         }
         Choice::Large { what, count } => (Status::Refused, large_line(alloc, what, count)?),
-        Choice::NotYet => (Status::Refused, notyet_line(alloc)?),
     };
     Ok(Outcome { status, lines })
 }
@@ -91,7 +98,7 @@ fn outcome_for(
     ensures { IfOk result (λ outcome.
         IsAnswerFor (seen_decls checked.now) target.now outcome.status outcome.lines) }
 {
-    let choice = choose(alloc, checked, units, target)?;
+    let choice = choose(alloc, units, target, SIZE_SPLITS)?;
     outcome_of(alloc, units.terms.symbols.as_slice(), choice)
 }
 

@@ -11,3 +11,4 @@ pub mod CountSteps
 pub mod OrderSteps
 pub mod SoundLaws
 pub mod FindingSteps
+pub mod ProgramUnitLaws

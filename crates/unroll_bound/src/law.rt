@@ -2,7 +2,7 @@
 
 ghost use Rattle.unroll_bound.specs.UnitBounds.{SizesAreWithin};
 ghost use Rattle.unroll_bound.specs.Counts.{InstancesAreCounted};
-ghost use Rattle.unroll_bound.specs.ProgramUnits.{PartsBound};
+ghost use Rattle.unroll_bound.specs.ProgramUnits.{KnownUnitsAreOfTheProgram};
 
 /// At feasible sizes each is at most its bound. It holds of the definitions, and takes no step.
 pub fn sizes_are_within_bounds()
@@ -14,7 +14,7 @@ pub fn instances_are_counted()
     ensures { InstancesAreCounted }
 {}
 
-/// Units that are alike but for the linear terms of their utilities have the same bounds and counts.
-pub fn alike_units_have_one_bound()
-    ensures { PartsBound }
+/// Units of which is known what `unit_flow::units` says of them are those of their program.
+pub fn known_units_are_of_the_program()
+    ensures { KnownUnitsAreOfTheProgram }
 {}

@@ -16,6 +16,6 @@ mod tally;
 mod unit_bounds;
 
 pub use counting::turns_at;
-pub use law::{alike_units_have_one_bound, instances_are_counted, sizes_are_within_bounds};
+pub use law::{instances_are_counted, known_units_are_of_the_program, sizes_are_within_bounds};
 pub use loop_uses::{LoopUse, uses_of_loops};
 pub use unit_bounds::{BoundError, BoundList, What, bounds};

@@ -1,3 +1,0 @@
-pub mod NoUnitLaws
-pub mod ListingLaws
-pub mod ChoiceLaws
