@@ -1,7 +1,12 @@
 pub mod BoxLaws
-pub mod PointLaws
 pub mod TightScan
+pub mod PointLaws
 pub mod SplitLaws
 pub mod FollowsLaws
 pub mod SettledLaws
 pub mod TrailLaws
+pub mod StateLaws
+pub mod WrapLaws
+pub mod ColumnLaws
+pub mod ListLaws
+pub mod RowLaws

@@ -20,7 +20,7 @@ use Rattle.int_program.proofs.SumLaws.{int_lt_yes}
 use Rattle.int_program.proofs.TreeLaws.{row_leaf_empty, row_met}
 use Rattle.branch_bound.specs.Lines.{IsSingle, AtMost, IsBestKnown, IsTried}
 
-none_from_test : {W : Type 0} (t : Bool) (w : W) → t ≡ true → cond t None (Some w) ≡ None
+pub none_from_test : {W : Type 0} (t : Bool) (w : W) → t ≡ true → cond t None (Some w) ≡ None
 none_from_test true w h = refl
 none_from_test false w h = cc
 
@@ -48,22 +48,26 @@ single_most (p ∷ ps) b s =
     omega (arith, ints)
 
 -- a row that doesn't close a box of one point is met there
-row_open : (b : IpBox) (row : Row) → (row_fault b (Some row) ≡ None → ⊥) → least_of row.parts b ≤ℤ row.most
+pub row_open : (b : IpBox) (row : Row) → (row_fault b (Some row) ≡ None → ⊥) → least_of row.parts b ≤ℤ row.most
 row_open b row h =
     by_lt_z row.most (least_of row.parts b) (λ l. absurd (h (none_from_test _ why.RowHolds (int_lt_yes row.most (least_of row.parts b) l)))) (λ g. g)
 
-pub single_point : (ip : Ip) (b : IpBox) → IsInside ip b → IsSingle b → NoRowLeaf ip b → IsPoint ip b.low
-single_point ip b o s h =
-    record {
-      in_root = record { count = o.low_count ∙ sym (zeros ip.tops); ends = λ k. (rw (at_zeros ip.tops k) (o.ends k).0, omega (arith, ints, (o.ends k).1, (o.ends k).2)) };
-      rows = λ k d l.
-          let open_row = row_open b (get_or ip.rows k d) (subst (λ r. row_fault b r ≡ None → ⊥) (slice_get-get_or ip.rows k d l) (h k)) in
-          omega (arith, ints, single_least (get_or ip.rows k d).parts b s);
-    }
+-- the lows are a point where they meet each row
+pub lows_point : (ip : Ip) (b : IpBox) → IsInside ip b → ((k : ℕ) (d : Row) → k < length ip.rows → sum_at (get_or ip.rows k d).parts b.low ≤ℤ (get_or ip.rows k d).most) → IsPoint ip b.low
+lows_point ip b inside meets = record {
+  in_root = record { count = inside.low_count ∙ sym (zeros ip.tops); ends = λ k. (rw (at_zeros ip.tops k) (inside.ends k).0, omega (arith, ints, (inside.ends k).1, (inside.ends k).2)) };
+  rows = meets;
+}
   where
     zeros : (xs : List ℤ) → length (map (λ _. pos 0) xs) ≡ length xs
     zeros [] = refl
     zeros (x ∷ xs) = omega (arith, zeros xs)
+
+pub single_point : (ip : Ip) (b : IpBox) → IsInside ip b → IsSingle b → NoRowLeaf ip b → IsPoint ip b.low
+single_point ip b o s h =
+    lows_point ip b o (λ k d l.
+    let open_row = row_open b (get_or ip.rows k d) (subst (λ r. row_fault b r ≡ None → ⊥) (slice_get-get_or ip.rows k d l) (h k)) in
+    omega (arith, ints, single_least (get_or ip.rows k d).parts b s))
 
 pub low_in_box : (ip : Ip) (b : IpBox) → IsInside ip b → InBox b.low b
 low_in_box ip b o = record { count = refl; ends = λ k. (omega (arith, ints), (o.ends k).1) }

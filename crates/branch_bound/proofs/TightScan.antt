@@ -29,7 +29,7 @@ stands (p ∷ ps) d v = by (nat_eq p.var v) refl (stands ps d v)
     by false e (inl z) = inl (omega (arith, ints))
     by false e (inr s) = inr (record { place = suc s.place; within = omega (arith, s.within); same = s.same })
 
-no_ends : (row : Row) (v : ℕ) (b : IpBox) → factor row.parts v ≡ pos 0 → tight_ends row v b ≡ None
+pub no_ends : (row : Row) (v : ℕ) (b : IpBox) → factor row.parts v ≡ pos 0 → tight_ends row v b ≡ None
 no_ends row v b e =
     let a = factor row.parts v in
     ap (λ (t : ℤ). shrunk t (at b.low v) (at b.high v) (ceiling (left_over row v b) a) (floor (left_over row v b) a)) e

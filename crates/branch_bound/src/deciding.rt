@@ -8,11 +8,15 @@ ghost use Rattle.int_program.specs.Accepts.{goal_fault, split_fault};
 ghost use Rattle.int_program.specs.Fair.{NoRowLeaf, NoTightening, most_above};
 ghost use Rattle.int_program.specs.Places.{opened};
 ghost use Rattle.branch_bound.specs.Trail.{behind, open_places, AreStepsOf};
+ghost use Rattle.branch_bound.specs.Columns.{AreColumns};
+ghost use Rattle.branch_bound.specs.States.{AreStates};
 ghost use Rattle.branch_bound.specs.Lines.{node_of, AtMost, IsBestKnown, IsStep, IsUnsplit, IsWritten, IsDecided, IsGrown, IsOpenPlace, IsSingle, IsSearchedThrough};
 
 use crate::boxes::{next_place, waiting_place};
+use crate::columns::Columns;
 use crate::line::Line;
 use crate::open::Open;
+use crate::states::RowState;
 use crate::testing::{closing_row, tightening, try_lowest};
 use elx_bits::Items;
 use int_program::{
@@ -73,9 +77,10 @@ fn hinted(ip: &Ip, place: &Place, hint: Hint) -> Option<Node>
 }
 
 /// The leaf that closes the place.
-fn leaf(ip: &Ip, known: Option<i128>, place: &Place) -> Option<Node>
+fn leaf(ip: &Ip, known: Option<i128>, states: &[RowState], place: &Place) -> Option<Node>
     requires limits { IsInLimits ip.now }
     requires open_place { IsOpenPlace ip.now place.now }
+    requires states { AreStates ip.now place.now.within states.now }
     ensures found { IfSome result (IsUnsplit ip.now known place.now) }
     ensures no_goal { IfNone result (goal_fault ip.now place.now.within known ≢ None) }
     ensures no_row { IfNone result (NoRowLeaf ip.now place.now.within) }
@@ -83,38 +88,42 @@ fn leaf(ip: &Ip, known: Option<i128>, place: &Place) -> Option<Node>
     if fault_of_goal_leaf(ip, &place.within, known).is_none() {
         return Some(Node::GoalLeaf);
     }
-    match closing_row(ip, &place.within) {
+    match closing_row(ip, &place.within, states) {
         Some(row) => Some(Node::RowLeaf { row }),
         None => None,
     }
 }
 
 /// The first tightening that may be written at the place.
-fn first_tight(ip: &Ip, place: &Place) -> Option<Node>
+fn first_tight(ip: &Ip, states: &mut [RowState], place: &Place) -> Option<Node>
     requires limits { IsInLimits ip.now }
     requires open_place { IsOpenPlace ip.now place.now }
+    requires states { AreStates ip.now place.now.within states.old }
+    ensures states { AreStates ip.now place.now.within states.new }
     ensures found { IfSome result (IsUnsplit ip.now None place.now) }
     ensures none { IfNone result (NoTightening ip.now place.now.within ⊎ (most_above ≤ place.now.above)) }
 {
     if place.above >= MOST_ABOVE {
         return None;
     }
-    match tightening(ip, &place.within) {
+    match tightening(ip, &place.within, states) {
         Some((var, row)) => Some(Node::Tight { var, row }),
         None => None,
     }
 }
 
 /// What is written at the place without a split.
-fn unsplit(ip: &Ip, known: Option<i128>, place: &Place) -> Option<Node>
+fn unsplit(ip: &Ip, known: Option<i128>, states: &mut [RowState], place: &Place) -> Option<Node>
     requires limits { IsInLimits ip.now }
     requires open_place { IsOpenPlace ip.now place.now }
+    requires states { AreStates ip.now place.now.within states.old }
+    ensures states { AreStates ip.now place.now.within states.new }
     ensures found { IfSome result (IsUnsplit ip.now known place.now) }
     ensures none { IfNone result (IsSearchedThrough ip.now known place.now) }
 {
-    match leaf(ip, known, place) {
+    match leaf(ip, known, states, place) {
         Some(node) => Some(node),
-        None => first_tight(ip, place),
+        None => first_tight(ip, states, place),
     }
 }
 
@@ -182,19 +191,22 @@ fn decided(
     best: &mut Option<Point>,
     may_split: bool,
     hint: Hint,
+    states: &mut [RowState],
     place: &Place,
 ) -> Result<Line, AllocError>
     requires limits { IsInLimits ip.now }
     requires open_place { IsOpenPlace ip.now place.now }
     requires best_known { IsBestKnown ip.now best.old known.old }
-    ensures { IfOk result (IsStep ip.now known.old known.new best.new may_split place.now) }
+    requires states { AreStates ip.now place.now.within states.old }
+    ensures step { IfOk result (IsStep ip.now known.old known.new best.new may_split place.now) }
+    ensures states { OnOk result (AreStates ip.now place.now.within states.new) }
 {
     if let Some(node) = hinted(ip, place, hint) {
         return Ok(Line::Done(node));
     }
-    let value = try_lowest(alloc, ip, &place.within, *known, best)?;
+    let value = try_lowest(alloc, ip, &place.within, states, *known, best)?;
     *known = value;
-    match unsplit(ip, value, place) {
+    match unsplit(ip, value, states, place) {
         Some(node) => Ok(Line::Done(node)),
         None => Ok(split_or_leave(ip, value, may_split, hint, place)),
     }
@@ -206,19 +218,24 @@ fn go_on(
     known: Option<i128>,
     place: Place,
     line: &Line,
+    columns: &Columns,
+    states: &mut [RowState],
     waiting: &mut Open,
 ) -> Result<Option<Place>, AllocError>
     requires limits { IsInLimits ip.now }
     requires open_place { IsOpenPlace ip.now place }
     requires written { IsWritten ip.now known place line.now }
     requires steps { AreStepsOf (length ip.now.tops) waiting.old }
+    requires columns { AreColumns ip.now columns.now }
+    requires states { AreStates ip.now place.within states.old }
     ensures places { IfOk result (λ next.
         open_places next waiting.new ≡ opened ip.now place (node_of line.now) ++ behind place.within waiting.old) }
     ensures steps { OnOk result (AreStepsOf (length ip.now.tops) waiting.new) }
+    ensures states { IfOk result (λ next. IfSome next (λ p. AreStates ip.now p.within states.new)) }
 {
     match line {
-        Line::Done(node) => next_place(ip, known, place, node, waiting),
-        Line::Left { most: _ } => waiting_place(place.within, waiting),
+        Line::Done(node) => next_place(ip, known, place, node, columns, states, waiting),
+        Line::Left { most: _ } => waiting_place(ip, columns, states, place.within, waiting),
     }
 }
 
@@ -231,6 +248,8 @@ pub(crate) fn write_line(
     may_split: bool,
     hint: Hint,
     place: Place,
+    columns: &Columns,
+    states: &mut [RowState],
     waiting: &mut Open,
     lines: &mut Items<Line>,
 ) -> Result<(Option<Place>, bool), AllocError>
@@ -238,14 +257,17 @@ pub(crate) fn write_line(
     requires open_place { IsOpenPlace ip.now place }
     requires best_known { IsBestKnown ip.now best.old known.old }
     requires steps { AreStepsOf (length ip.now.tops) waiting.old }
+    requires columns { AreColumns ip.now columns.now }
+    requires states { AreStates ip.now place.within states.old }
     ensures at_most { OnOk result (AtMost known.old known.new) }
     ensures best { OnOk result (IsBestKnown ip.now best.new known.new) }
     ensures grown { IfOk result (λ next. IsGrown ip.now known.new may_split place (behind place.within waiting.old)
         (open_places next.0 waiting.new) lines.old lines.new next.1) }
     ensures steps { OnOk result (AreStepsOf (length ip.now.tops) waiting.new) }
+    ensures states { IfOk result (λ next. IfSome next.0 (λ p. AreStates ip.now p.within states.new)) }
 {
-    let line = decided(alloc, ip, known, best, may_split, hint, &place)?;
-    let next = go_on(ip, *known, place, &line, waiting)?;
+    let line = decided(alloc, ip, known, best, may_split, hint, states, &place)?;
+    let next = go_on(ip, *known, place, &line, columns, states, waiting)?;
     let split = line.is_split();
     lines.push(line)?;
     Ok((next, split))

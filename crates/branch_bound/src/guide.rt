@@ -13,6 +13,8 @@ const MOST_HINTS: usize = 100;
 #[derive(Drop)]
 pub(crate) struct Guide {
     ranges: Ranges,
+    /// Whether some box was left before all its rows had been looked at.
+    partial: bool,
     hints: Vec<Hint>,
     split: Hint,
     low_needed: Vec<bool>,
@@ -41,8 +43,11 @@ fn set(flags: &mut [bool], place: u32, value: bool) -> bool {
 impl Guide {
     pub(crate) fn new(alloc: Global, ip: &Ip, table: &Table) -> Result<Guide, AllocError> {
         let variables = ip.tops.as_slice().len();
+        let mut ranges = Ranges::new(alloc, ip, table)?;
+        ranges.refresh(ip, table)?;
         Ok(Guide {
-            ranges: Ranges::new(alloc, ip, table)?,
+            ranges,
+            partial: false,
             hints: Vec::new(alloc),
             split: Hint::Nothing,
             low_needed: copies(alloc, false, variables)?,
@@ -76,7 +81,10 @@ impl Guide {
     ) -> Result<(), AllocError> {
         self.hints.clear();
         self.split = Hint::Nothing;
-        self.ranges.load(ip, table, within)?;
+        self.ranges.load(table, within)?;
+        if self.partial {
+            self.ranges.look_at_all(table)?;
+        }
         if let Some(value) = known {
             if self.ranges.goal_most(ip, table) <= value {
                 return Ok(());
@@ -90,10 +98,11 @@ impl Guide {
 
     /// Each tightening, the last first, and then a split. Wide ranges are narrowed by small steps only here.
     fn give_all(&mut self, ip: &Ip, table: &Table) -> Result<(), AllocError> {
-        self.ranges.look_at_all(table)?;
+        self.ranges.look_at_skipped()?;
         if let Some(row) = self.ranges.propagate(ip, table, false, MOST_HINTS)? {
             return self.give_reasons(ip, table, row);
         }
+        self.partial = self.partial || self.ranges.trail.len() >= MOST_HINTS;
         for change in self.ranges.trail.as_slice().iter().rev() {
             self.hints.push(hint_of(change))?;
         }

@@ -3,6 +3,7 @@
 
 mod boxes;
 mod choosing;
+mod columns;
 mod deciding;
 mod diving;
 mod found;
@@ -11,6 +12,7 @@ mod line;
 mod open;
 mod ranges;
 mod searching;
+mod states;
 mod table;
 mod testing;
 

@@ -1,13 +1,17 @@
 //! The places that are still open, kept as the steps that led to the box where a line is written.
 
-ghost use Rattle.std.specs.Prelude.{◌≡◌, ◌<◌, ◌<ℤ◌, ◌+ℤ◌, pos, length, slice_set, [], ◌∷◌, IfOk, OnOk, MatchOption};
+ghost use Rattle.std.specs.Prelude.{◌≡◌, ◌<◌, ◌<ℤ◌, ◌+ℤ◌, pos, length, slice_set, [], ◌∷◌, IfOk, IfSome, OnOk, MatchOption};
 ghost use Rattle.int_program.specs.Sums.{at as at_place};
 ghost use Rattle.int_program.specs.Accepts.{lower_half, upper_half, with_ends};
 ghost use Rattle.int_program.specs.Places.{place as place_of};
 ghost use Rattle.branch_bound.specs.Trail.{behind, AreStepsOf};
+ghost use Rattle.branch_bound.specs.Columns.{AreColumns};
+ghost use Rattle.branch_bound.specs.States.{AreStates};
 
+use crate::columns::Columns;
+use crate::states::{RowState, change_ends};
 use elx_bits::Items;
-use int_program::IpBox;
+use int_program::{Ip, IpBox};
 use std::alloc::{AllocError, Global};
 use std::marker::Model;
 
@@ -125,53 +129,89 @@ impl Open {
     /// The box with other ends of the variable, whose own ends are kept.
     pub(crate) fn change(
         &mut self,
+        ip: &Ip,
+        columns: &Columns,
+        states: &mut [RowState],
         within: IpBox,
         var: u32,
         ends: (i128, i128),
     ) -> Result<IpBox, AllocError>
-        requires in_low { var < length within.low }
-        requires in_high { var < length within.high }
-        requires steps { AreStepsOf (length within.low) self.old }
+        requires var { var < length ip.now.tops }
+        requires low_count { length within.low ≡ length ip.now.tops }
+        requires high_count { length within.high ≡ length ip.now.tops }
+        requires steps { AreStepsOf (length ip.now.tops) self.old }
+        requires columns { AreColumns ip.now columns.now }
+        requires states { AreStates ip.now within states.old }
         ensures changed { IfOk result (λ b. b ≡ with_ends within var ends) }
         ensures behind { IfOk result (λ b. behind b self.new ≡ behind within self.old) }
-        ensures steps { OnOk result (AreStepsOf (length within.low) self.new) }
+        ensures steps { OnOk result (AreStepsOf (length ip.now.tops) self.new) }
+        ensures states { IfOk result (λ b. AreStates ip.now b states.new) }
     {
         let own = ends_of(&within, var);
         self.push(Step::Changed { var, ends: own })?;
+        change_ends(ip, columns, states, &within, var, own, ends);
         Ok(narrowed(within, var as usize, ends))
     }
 
     /// The lower half of a box, while the upper one waits.
-    pub(crate) fn split(&mut self, within: IpBox, var: u32, at: i128) -> Result<IpBox, AllocError>
-        requires in_box { var < length within.low }
-        requires lengths { length within.low ≡ length within.high }
+    pub(crate) fn split(
+        &mut self,
+        ip: &Ip,
+        columns: &Columns,
+        states: &mut [RowState],
+        within: IpBox,
+        var: u32,
+        at: i128,
+    ) -> Result<IpBox, AllocError>
+        requires var { var < length ip.now.tops }
+        requires low_count { length within.low ≡ length ip.now.tops }
+        requires high_count { length within.high ≡ length ip.now.tops }
         requires below { at <ℤ at_place within.high var }
-        requires steps { AreStepsOf (length within.low) self.old }
+        requires steps { AreStepsOf (length ip.now.tops) self.old }
+        requires columns { AreColumns ip.now columns.now }
+        requires states { AreStates ip.now within states.old }
         ensures half { IfOk result (λ b. b ≡ lower_half within var at) }
         ensures behind { IfOk result (λ b.
             behind b self.new ≡ place_of (upper_half within var at) 0 ∷ behind within self.old) }
-        ensures steps { OnOk result (AreStepsOf (length within.low) self.new) }
+        ensures steps { OnOk result (AreStepsOf (length ip.now.tops) self.new) }
+        ensures states { IfOk result (λ b. AreStates ip.now b states.new) }
     {
         let upper = upper_ends(&within, var, at);
         let lower = lower_ends(&within, var, at);
         self.push(Step::Waits { var, ends: upper })?;
-        let half = self.change(within, var, lower)?;
+        let half = self.change(ip, columns, states, within, var, lower)?;
         Ok(half)
     }
 
     /// The box that waits next.
-    pub(crate) fn next(&mut self, within: IpBox) -> Result<Option<IpBox>, AllocError>
-        requires lengths { length within.low ≡ length within.high }
-        requires steps { AreStepsOf (length within.low) self.old }
+    pub(crate) fn next(
+        &mut self,
+        ip: &Ip,
+        columns: &Columns,
+        states: &mut [RowState],
+        within: IpBox,
+    ) -> Result<Option<IpBox>, AllocError>
+        requires low_count { length within.low ≡ length ip.now.tops }
+        requires high_count { length within.high ≡ length ip.now.tops }
+        requires steps { AreStepsOf (length ip.now.tops) self.old }
+        requires columns { AreColumns ip.now columns.now }
+        requires states { AreStates ip.now within states.old }
         ensures next { IfOk result (λ next. MatchOption next (behind within self.old ≡ [])
             (λ b. behind within self.old ≡ place_of b 0 ∷ behind b self.new)) }
-        ensures steps { OnOk result (AreStepsOf (length within.low) self.new) }
+        ensures steps { OnOk result (AreStepsOf (length ip.now.tops) self.new) }
+        ensures states { IfOk result (λ next. IfSome next (λ b. AreStates ip.now b states.new)) }
     {
         let mut within = within;
         'steps: while let Some(step) = self.pop() {
             match step {
-                Step::Changed { var, ends } => within = narrowed(within, var as usize, ends),
-                Step::Waits { var, ends } => return Ok(Some(self.change(within, var, ends)?)),
+                Step::Changed { var, ends } => {
+                    let own = ends_of(&within, var);
+                    change_ends(ip, columns, states, &within, var, own, ends);
+                    within = narrowed(within, var as usize, ends);
+                }
+                Step::Waits { var, ends } => {
+                    return Ok(Some(self.change(ip, columns, states, within, var, ends)?));
+                }
             }
         }
         Ok(None)

@@ -1,5 +1,6 @@
 //! The ranges of the variables while the guide narrows them, each row's least value and its value at the lows, and the way back.
 
+use crate::columns::Entry;
 use crate::table::{Table, copies, number, place, put};
 use int_program::{Ip, IpBox, Part};
 use std::alloc::{AllocError, Global};
@@ -33,6 +34,9 @@ pub(crate) struct Ranges {
     queued: Vec<bool>,
     broken: Vec<u32>,
     broken_at: Vec<u32>,
+    skipped: Vec<u32>,
+    /// How far one part of the row can raise its least value on the root box.
+    reach: Vec<i128>,
     /// How many entries were looked at.
     pub(crate) work: u64,
 }
@@ -53,6 +57,18 @@ fn sums(parts: &[Part], low: &[i128], high: &[i128]) -> (i128, i128) {
     (least, at_lows)
 }
 
+/// How far one of the parts can raise the sum's least value.
+fn greatest_reach(parts: &[Part], tops: &[i128]) -> i128 {
+    let mut reach = 0i128;
+    for part in parts {
+        let size = part.by.wrapping_abs().wrapping_mul(number(tops, part.var));
+        if size > reach {
+            reach = size;
+        }
+    }
+    reach
+}
+
 impl Ranges {
     /// The ranges of the root box. No value is asked of the objective.
     pub(crate) fn new(alloc: Global, ip: &Ip, table: &Table) -> Result<Ranges, AllocError> {
@@ -63,6 +79,10 @@ impl Ranges {
             most.push(row.most)?;
         }
         most.push(OPEN)?;
+        let mut reach = Vec::new(alloc);
+        for row in 0..table.objective().saturating_add(1) {
+            reach.push(greatest_reach(table.row(ip, row), ip.tops.as_slice()))?;
+        }
         Ok(Ranges {
             low: copies(alloc, 0i128, variables)?,
             high: ip.tops.as_slice().to_vec(alloc)?,
@@ -75,22 +95,28 @@ impl Ranges {
             queued: copies(alloc, false, rows)?,
             broken: Vec::new(alloc),
             broken_at: copies(alloc, 0u32, rows)?,
+            skipped: Vec::new(alloc),
+            reach,
             work: 0,
         })
     }
 
-    /// Takes over a box, and looks at each row.
-    pub(crate) fn load(
-        &mut self,
-        ip: &Ip,
-        table: &Table,
-        within: &IpBox,
-    ) -> Result<(), AllocError> {
-        self.low.clear();
-        self.low.extend_from_slice(within.low.as_slice())?;
-        self.high.clear();
-        self.high.extend_from_slice(within.high.as_slice())?;
-        self.refresh(ip, table)
+    /// Takes over a box end by end, and looks at rows whose least value rises.
+    pub(crate) fn load(&mut self, table: &Table, within: &IpBox) -> Result<(), AllocError> {
+        self.trail.clear();
+        for (i, to) in within.low.as_slice().iter().enumerate() {
+            let var = place(i);
+            if number(self.low.as_slice(), var) != *to {
+                self.move_low(table, var, *to)?;
+            }
+        }
+        for (i, to) in within.high.as_slice().iter().enumerate() {
+            let var = place(i);
+            if number(self.high.as_slice(), var) != *to {
+                self.move_high(table, var, *to)?;
+            }
+        }
+        Ok(())
     }
 
     /// Takes each sum anew, and looks at each row.
@@ -212,6 +238,16 @@ impl Ranges {
         Ok(())
     }
 
+    /// Looks once more at each row by which a wide range wasn't narrowed because the step was small.
+    pub(crate) fn look_at_skipped(&mut self) -> Result<(), AllocError> {
+        for _ in 0..self.skipped.len() {
+            if let Some(row) = self.skipped.pop() {
+                self.touch(row)?;
+            }
+        }
+        Ok(())
+    }
+
     fn forget_queue(&mut self) {
         for row in self.queue.as_slice() {
             if let Some(slot) = self.queued.get_mut(*row as usize) {
@@ -237,6 +273,30 @@ impl Ranges {
         put(self.least.as_mut_slice(), row, old.wrapping_add(by));
     }
 
+    /// What a row becomes where the low end of one of its variables moves by so much.
+    fn low_moved(&mut self, entry: Entry, by: i128) -> Result<(), AllocError> {
+        let change = entry.by.wrapping_mul(by);
+        self.shift_lows(entry.row, change)?;
+        if entry.by > 0 {
+            self.shift_least(entry.row, change);
+            if by > 0 {
+                self.touch(entry.row)?;
+            }
+        }
+        Ok(())
+    }
+
+    /// What a row becomes where the high end of one of its variables moves by so much.
+    fn high_moved(&mut self, entry: Entry, by: i128) -> Result<(), AllocError> {
+        if entry.by < 0 {
+            self.shift_least(entry.row, entry.by.wrapping_mul(by));
+            if by < 0 {
+                self.touch(entry.row)?;
+            }
+        }
+        Ok(())
+    }
+
     /// Moves the low end of a variable, and looks at rows whose least value rose.
     fn move_low(&mut self, table: &Table, var: u32, to: i128) -> Result<(), AllocError> {
         let by = to.wrapping_sub(number(self.low.as_slice(), var));
@@ -244,16 +304,9 @@ impl Ranges {
         let column = table.column(var);
         self.work = self.work.wrapping_add(column.len() as u64);
         for entry in column {
-            let change = entry.by.wrapping_mul(by);
-            self.shift_lows(entry.row, change)?;
-            if entry.by > 0 {
-                self.shift_least(entry.row, change);
-                if by > 0 {
-                    self.touch(entry.row)?;
-                }
-            }
+            self.low_moved(*entry, by)?;
         }
-        Ok(())
+        self.low_moved(table.objective_entry(var), by)
     }
 
     /// Moves the high end of a variable, and looks at rows whose least value rose.
@@ -263,14 +316,9 @@ impl Ranges {
         let column = table.column(var);
         self.work = self.work.wrapping_add(column.len() as u64);
         for entry in column {
-            if entry.by < 0 {
-                self.shift_least(entry.row, entry.by.wrapping_mul(by));
-                if by < 0 {
-                    self.touch(entry.row)?;
-                }
-            }
+            self.high_moved(*entry, by)?;
         }
-        Ok(())
+        self.high_moved(table.objective_entry(var), by)
     }
 
     /// Raises the low end of a variable.
@@ -324,6 +372,14 @@ impl Ranges {
         Ok(())
     }
 
+    /// Keeps a row for later.
+    fn skip(&mut self, row: u32) -> Result<(), AllocError> {
+        if self.skipped.as_slice().last() != Some(&row) {
+            self.skipped.push(row)?;
+        }
+        Ok(())
+    }
+
     /// Narrows one variable by a row with this much left between its least value and its right side.
     fn narrow(
         &mut self,
@@ -334,17 +390,13 @@ impl Ranges {
         lazy: bool,
     ) -> Result<(), AllocError> {
         let span = self.span(part.var);
-        let size = if part.by < 0 {
-            0i128.wrapping_sub(part.by)
-        } else {
-            part.by
-        };
+        let size = part.by.wrapping_abs();
         if span <= 0 || size <= 0 || size.wrapping_mul(span) <= slack {
             return Ok(());
         }
         let steps = slack.div_euclid(size);
         if lazy && span > WIDE && span.wrapping_sub(steps) < span.div_euclid(16) {
-            return Ok(());
+            return self.skip(row);
         }
         if part.by > 0 {
             let to = number(self.low.as_slice(), part.var).wrapping_add(steps);
@@ -370,6 +422,9 @@ impl Ranges {
         if slack < 0 {
             return Ok(true);
         }
+        if slack >= number(self.reach.as_slice(), row) {
+            return Ok(false);
+        }
         let parts = table.row(ip, row);
         self.work = self.work.wrapping_add(parts.len() as u64);
         for part in parts {
@@ -386,6 +441,9 @@ impl Ranges {
         lazy: bool,
         longest: usize,
     ) -> Result<Option<u32>, AllocError> {
+        if lazy {
+            self.skipped.clear();
+        }
         for _ in 0..u64::MAX {
             let row = match self.queue.get(self.head) {
                 Some(row) => *row,

@@ -1,20 +1,25 @@
 //! The search: line after line, until no place is open.
 
 ghost use Rattle.std.specs.Prelude.{◌≡◌, ◌≤◌, IfOk, OnOk};
+ghost use Rattle.int_program.specs.Boxes.{root_of};
 ghost use Rattle.int_program.specs.Limits.{IsInLimits};
+ghost use Rattle.branch_bound.specs.Columns.{AreColumns};
+ghost use Rattle.branch_bound.specs.States.{AreStates};
 ghost use Rattle.branch_bound.specs.Found.{most_splits, IsFound};
 ghost use Rattle.branch_bound.specs.Lines.{IsBestKnown, IsClosed};
 
+use crate::columns::Columns;
 use crate::deciding::write_line;
 use crate::diving::first_point;
 use crate::found::Found;
 use crate::guide::Guide;
 use crate::line::{Line, has_open, settled_tree};
 use crate::open::Open;
+use crate::states::{RowState, states_of};
 use crate::table::Table;
 use crate::testing::try_values;
 use elx_bits::Items;
-use int_program::{Ip, Place, Point, root};
+use int_program::{Ip, IpBox, Place, Point, root};
 use std::alloc::{AllocError, Global};
 
 /// The best point that was found, its value, and the lines.
@@ -43,32 +48,41 @@ fn try_first(
 }
 
 /// Fills the root box with lines.
-fn close(alloc: Global, ip: &Ip, limit: u64) -> Result<Closed, AllocError>
-    requires { IsInLimits ip.now }
-    ensures { IfOk result (λ closed. IsClosed ip.now limit closed.best closed.known closed.lines) }
+fn fill(
+    alloc: Global,
+    ip: &Ip,
+    limit: u64,
+    table: &Table,
+    states: &mut [RowState],
+    known: &mut Option<i128>,
+    best: &mut Option<Point>,
+    within: IpBox,
+) -> Result<Items<Line>, AllocError>
+    requires limits { IsInLimits ip.now }
+    requires columns { AreColumns ip.now table.now.columns }
+    requires states { AreStates ip.now within states.old }
+    requires best_known { IsBestKnown ip.now best.old known.old }
+    requires root { within ≡ root_of ip.now }
+    ensures { IfOk result (IsClosed ip.now limit best.new known.new) }
 {
-    let table = Table::new(alloc, ip)?;
-    let mut best = None;
-    let mut known = try_first(alloc, ip, &table, &mut best)?;
-    let mut guide = Guide::new(alloc, ip, &table)?;
-    let mut here = Some(Place {
-        within: root(alloc, ip)?,
-        above: 0,
-    });
+    let mut guide = Guide::new(alloc, ip, table)?;
+    let mut here = Some(Place { within, above: 0 });
     let mut waiting = Open::new(alloc);
     let mut lines = Items::new(alloc);
     let mut splits = 0u64;
     'places: while let Some(place) = here {
-        let hint = guide.hint(ip, &table, &place, known)?;
+        let hint = guide.hint(ip, table, &place, *known)?;
         let may_split = splits < limit;
         let (next, split) = write_line(
             alloc,
             ip,
-            &mut known,
-            &mut best,
+            known,
+            best,
             may_split,
             hint,
             place,
+            &table.columns,
+            states,
             &mut waiting,
             &mut lines,
         )?;
@@ -77,6 +91,29 @@ fn close(alloc: Global, ip: &Ip, limit: u64) -> Result<Closed, AllocError>
             splits += 1;
         }
     }
+    Ok(lines)
+}
+
+/// The lines of the root box, with what is known when all are written.
+fn close(alloc: Global, ip: &Ip, limit: u64) -> Result<Closed, AllocError>
+    requires { IsInLimits ip.now }
+    ensures { IfOk result (λ closed. IsClosed ip.now limit closed.best closed.known closed.lines) }
+{
+    let table = Table::new(alloc, ip, Columns::new(alloc, ip)?)?;
+    let mut best = None;
+    let mut known = try_first(alloc, ip, &table, &mut best)?;
+    let within = root(alloc, ip)?;
+    let mut states = states_of(alloc, ip, &within)?;
+    let lines = fill(
+        alloc,
+        ip,
+        limit,
+        &table,
+        states.as_mut_slice(),
+        &mut known,
+        &mut best,
+        within,
+    )?;
     Ok(Closed { best, known, lines })
 }
 

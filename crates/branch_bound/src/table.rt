@@ -1,15 +1,11 @@
 //! The rows of a program, the objective as one more row, and for each variable the rows that name it. What stands here and in the
 //! other files of the guide only says what to try first, so that no clause speaks of it.
 
+ghost use Rattle.std.specs.Prelude.{◌≡◌, IfOk};
+
+use crate::columns::{Columns, Entry};
 use int_program::{Ip, Part};
 use std::alloc::{AllocError, Global};
-
-/// A row that names a variable, and the variable's coefficient there.
-#[derive(Clone, Copy, Debug)]
-pub(crate) struct Entry {
-    pub(crate) row: u32,
-    pub(crate) by: i128,
-}
 
 /// The number at a place, 0 where there is none.
 pub(crate) fn number(numbers: &[i128], place: u32) -> i128 {
@@ -34,34 +30,13 @@ pub(crate) fn place(number: usize) -> u32 {
     }
 }
 
-/// The rows and columns of a program. Its last row is the objective, with each sign turned.
+/// The columns of a program, and its objective as one more row, with each sign turned.
 #[derive(Drop)]
 pub(crate) struct Table {
-    starts: Vec<usize>,
-    entries: Vec<Entry>,
+    pub(crate) columns: Columns,
     objective: Vec<Part>,
+    worth: Vec<i128>,
     rows: u32,
-}
-
-/// Counts the parts of each variable one place further.
-fn count(starts: &mut [usize], parts: &[Part]) {
-    for part in parts {
-        if let Some(slot) = starts.get_mut((part.var as usize).wrapping_add(1)) {
-            *slot = slot.wrapping_add(1);
-        }
-    }
-}
-
-/// Writes the entries of a row at the next places of their columns.
-fn fill(next: &mut [usize], entries: &mut [Entry], row: u32, parts: &[Part]) {
-    for part in parts {
-        if let Some(at) = next.get_mut(part.var as usize) {
-            if let Some(slot) = entries.get_mut(*at) {
-                *slot = Entry { row, by: part.by };
-            }
-            *at = at.wrapping_add(1);
-        }
-    }
 }
 
 /// The objective with each sign turned.
@@ -90,42 +65,20 @@ pub(crate) fn copies<T: Copy + Drop>(
 }
 
 impl Table {
-    /// The table of a program.
-    pub(crate) fn new(alloc: Global, ip: &Ip) -> Result<Table, AllocError> {
-        let rows = ip.rows.as_slice();
+    /// The table of a program with these columns.
+    pub(crate) fn new(alloc: Global, ip: &Ip, columns: Columns) -> Result<Table, AllocError>
+        ensures { IfOk result (λ table. table.columns ≡ columns) }
+    {
         let objective = turned(alloc, ip.goal.as_slice())?;
-        let mut starts = copies(alloc, 0usize, ip.tops.as_slice().len().wrapping_add(1))?;
-        for row in rows {
-            count(starts.as_mut_slice(), row.parts.as_slice());
+        let mut worth = copies(alloc, 0i128, ip.tops.as_slice().len())?;
+        for part in objective.as_slice() {
+            put(worth.as_mut_slice(), part.var, part.by);
         }
-        count(starts.as_mut_slice(), objective.as_slice());
-        let mut sum = 0usize;
-        for start in starts.as_mut_slice().iter_mut() {
-            sum = sum.wrapping_add(*start);
-            *start = sum;
-        }
-        let mut next = starts.as_slice().to_vec(alloc)?;
-        let mut entries = copies(alloc, Entry { row: 0, by: 0 }, sum)?;
-        for (i, row) in rows.iter().enumerate() {
-            fill(
-                next.as_mut_slice(),
-                entries.as_mut_slice(),
-                place(i),
-                row.parts.as_slice(),
-            );
-        }
-        let last = place(rows.len());
-        fill(
-            next.as_mut_slice(),
-            entries.as_mut_slice(),
-            last,
-            objective.as_slice(),
-        );
         Ok(Table {
-            starts,
-            entries,
+            columns,
             objective,
-            rows: last,
+            worth,
+            rows: place(ip.rows.as_slice().len()),
         })
     }
 
@@ -144,18 +97,14 @@ impl Table {
 
     /// The rows that name a variable.
     pub(crate) fn column(&self, var: u32) -> &[Entry] {
-        let starts = self.starts.as_slice();
-        let from = match starts.get(var as usize) {
-            Some(start) => *start,
-            None => 0,
-        };
-        let to = match starts.get((var as usize).wrapping_add(1)) {
-            Some(start) => *start,
-            None => from,
-        };
-        match self.entries.as_slice().get(from..to) {
-            Some(entries) => entries,
-            None => &[],
+        self.columns.column(var)
+    }
+
+    /// The variable in the objective.
+    pub(crate) fn objective_entry(&self, var: u32) -> Entry {
+        Entry {
+            row: self.rows,
+            by: number(self.worth.as_slice(), var),
         }
     }
 }
